@@ -1,0 +1,56 @@
+// What one line of a log asks for.
+use terms::Access;
+
+// A frame borrows its accesses or its table: from the caller who writes it, or from the room it was read into.
+#[derive(Clone, Copy)]
+pub enum Frame<'a> {
+    // Kind 01.
+    Append {
+        snapshot: u16,
+        accesses: &'a [Access],
+    },
+    // Kind 02.
+    Assign,
+    // Kind 03: begin, then park.
+    BeginPark {
+        worker: u8,
+    },
+    // Kind 04: resume, then finish.
+    ResumeFinish {
+        worker: u8,
+    },
+    // Kind 05.
+    Verdict {
+        number: u16,
+    },
+    // Kind 06.
+    Tally,
+    // Kind 10.
+    SetUpResidue {
+        rule: u8,
+        n: u8,
+    },
+    // Kind 11.
+    SetUpListed {
+        rule: u8,
+        n: u8,
+        table: &'a [u8],
+    },
+}
+
+// Where the reader puts what a frame borrows, so that reading takes no heap. Nobody else sees what it holds.
+#[derive(Drop)]
+pub struct Room {
+    // The longest frame has 1,027 bytes.
+    pub(super) bytes: [u8; 1027],
+    pub(super) accesses: [Access; 8],
+}
+
+impl Room {
+    pub fn new() -> Room {
+        Room {
+            bytes: [0; 1027],
+            accesses: [Access { mode: 0, cell: 0 }; 8],
+        }
+    }
+}

@@ -1,0 +1,15 @@
+// Frames, kept as lines of hexadecimal: what they say, how a line is read and how one is written.
+mod fault;
+mod frame;
+mod hex;
+mod lines;
+mod reader;
+mod writer;
+
+pub use fault::LineFault;
+pub use fault::WriteFault;
+pub use frame::Frame;
+pub use frame::Room;
+pub use lines::first_line;
+pub use reader::read_line;
+pub use writer::write_line;
