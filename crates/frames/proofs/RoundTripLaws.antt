@@ -45,7 +45,7 @@ passed t e r x h =
     ]
 
 -- a line that reads is the line of what was read
-read-is-written : (line : List ℕ) (f : Content) → readAnswer line ≡ Ok f → Writable f × (lineOf f ≡ line)
+pub read-is-written : (line : List ℕ) (f : Content) → readAnswer line ≡ Ok f → Writable f × (lineOf f ≡ line)
 read-is-written line f e =
     let (odd, e) = passed (eqb (length line % 2) 1) (OddCount (length line)) _ f e in
     let (bad, e) = passed (ltb (leading isDigit line) (length line)) (NotHexadecimal (leading isDigit line)) _ f e in

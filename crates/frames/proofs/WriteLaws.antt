@@ -15,10 +15,10 @@ use Rattle.frames.specs.declared.fault.WriteFault.{WriteFault}
 use Rattle.frames.specs.declared.fault.WriteFault.the-variants.{ShortBuffer}
 use Rattle.frames.specs.Hex.{hexOf, Bytes}
 use Rattle.frames.specs.Contents.{Content, accessBytes, lineOf, noLine, AccessesFit}
-use Rattle.frames.specs.Contents.Content.{append, setUpListed}
+use Rattle.frames.specs.Contents.Content.{append, assign, beginPark, resumeFinish, verdict, tally, setUpResidue, setUpListed}
 use Rattle.frames.specs.Writing.{over, written, unless, writeAnswer}
 use Rattle.frames.proofs.HexLaws.{length-hexOf}
-use Rattle.frames.proofs.ContentLaws.{length-accessBytes}
+use Rattle.frames.proofs.ContentLaws.{few-accesses, whole-table, length-accessBytes}
 use Rattle.frames.proofs.PutLaws.{hexOf-append, over-more}
 
 pub length-append-line : (s : ℕ) (xs : List Access) → length (lineOf (append s xs)) ≡ 8 + 6 * length xs
@@ -26,6 +26,17 @@ length-append-line s xs = omega (arith, length-hexOf (accessBytes xs), length-ac
 
 pub length-listed-line : (r n : ℕ) (table : List ℕ) → length (lineOf (setUpListed r n table)) ≡ 6 + 2 * length table
 length-listed-line r n table = omega (arith, length-hexOf table)
+
+-- the longest line is that of a listed map
+pub line-short : (f : Content) → noLine f ≡ None → length (lineOf f) ≤ 2054
+line-short (append s xs) h = omega (arith, length-append-line s xs, few-accesses s xs h)
+line-short assign h = omega arith
+line-short (beginPark w) h = omega arith
+line-short (resumeFinish w) h = omega arith
+line-short (verdict n) h = omega arith
+line-short tally h = omega arith
+line-short (setUpResidue r n) h = omega arith
+line-short (setUpListed r n t) h = omega (arith, length-listed-line r n t, whole-table r n t h)
 
 accessBytes-push : (xs : List Access) (a : Access) → accessBytes (xs ++ a ∷ []) ≡ accessBytes xs ++ (a .mode ∷ (a .cell / 256) ∷ (a .cell % 256) ∷ [])
 accessBytes-push [] a = refl

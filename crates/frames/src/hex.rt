@@ -1,6 +1,6 @@
 // Hexadecimal digits.
 ghost use mathlib.Core.Bool.{true};
-ghost use mathlib.Core.List.{_++_};
+ghost use mathlib.Core.List.{[], _∷_, _++_};
 ghost use mathlib.Core.Path.{_≡_};
 ghost use Prim.Native.Nat.{ℕ, _+_, _*_, _%_, _<_, _≤_};
 ghost use lib.Dec.{ltb};
@@ -45,10 +45,18 @@ pub fn put(out: &mut [u8], at: usize, bytes: &[u8]) -> usize
     ensures after { λ _. ⌜ now (out .exit) ≡ take at (now (out .entry)) ++ over (hexOf (now (bytes .entry))) (drop at (now (out .entry))) ⌝ }
 {
     for (i, b) in bytes.iter().enumerate() {
-        out[at + 2 * i] = digit_of(*b / 16);
-        out[at + 2 * i + 1] = digit_of(*b % 16);
+        let (high, low) = hex_pair(*b);
+        out[at + 2 * i] = high;
+        out[at + 2 * i + 1] = low;
     }
     at + 2 * bytes.len()
+}
+
+// The two digits of a byte, the high one first.
+pub fn hex_pair(byte: u8) -> (u8, u8)
+    ensures { λ r. ⌜ r .0 ∷ r .1 ∷ [] ≡ hexOf (byte ∷ []) ⌝ }
+{
+    (digit_of(byte / 16), digit_of(byte % 16))
 }
 
 fn is_digit(c: u8) -> bool

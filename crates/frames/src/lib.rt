@@ -10,6 +10,7 @@ pub use fault::LineFault;
 pub use fault::WriteFault;
 pub use frame::Frame;
 pub use frame::Room;
+pub use hex::hex_pair;
 pub use lines::first_line;
 pub use reader::read_line;
 pub use writer::write_line;

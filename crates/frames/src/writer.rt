@@ -1,8 +1,9 @@
 // Frames into lines.
 ghost use mathlib.Core.List.{[], _∷_, _++_};
 ghost use mathlib.Core.Path.{_≡_};
-ghost use Prim.Native.Nat.{_+_, _≤_};
+ghost use Prim.Native.Nat.{_+_, _≤_, _<_};
 ghost use lib.ListN.{length, take, drop};
+ghost use Rattle.std.specs.Vec.{made};
 ghost use Rattle.std.specs.declared.option.Option.the-variants.{None};
 ghost use Rattle.frames.specs.Contents.{lineOf, accessBytes, noLine, AccessesFit, FieldsFit};
 ghost use Rattle.frames.specs.Contents.Content.{append, setUpListed};
@@ -20,6 +21,7 @@ pub fn write_line(frame: Frame<'_>, out: &mut [u8]) -> Result<usize, WriteFault>
     ensures answer { λ r. ⌜ r ≡ writeAnswer (contentOf (frame .entry)) (length (now (out .entry))) ⌝ }
     ensures buffer { λ r. ⌜ now (out .exit) ≡ bufferAfter r (contentOf (frame .entry)) (now (out .entry)) ⌝ }
     ensures reads { λ r. ⌜ WrittenReads r (contentOf (frame .entry)) (now (out .exit)) ⌝ }
+    ensures within { λ r. ⌜ made r (λ n. (0 < n) × (n ≤ length (now (out .exit)))) ⌝ }
 {
     if let Some(fault) = no_line(frame) {
         return Err(fault);

@@ -2,6 +2,7 @@ use mathlib.Core.List.{[]}
 use mathlib.Core.Path.{_≡_, refl, sym, ap, _∙_}
 use lib.ListN.{length, set}
 use native.Mathlib.Omega.{arith}
+use Rattle.std.proofs.shelf.Lists.{length-set}
 use Rattle.std.specs.declared.option.Option.the-variants.{None}
 use Rattle.frames.specs.Contents.{lineOf, noLine}
 use Rattle.frames.specs.Held.{contentOf}
@@ -18,6 +19,7 @@ returns-then-out-needed c =
       answer = answer-short (contentOf (c .args .frame)) (length (c .args .out .now)) (c .line-length-needed .result) u (c .line-length-needed .ensures .value) (c .if-out-needed .taken);
       buffer = refl;
       reads = tt;
+      within = tt;
     }
 
 pub returns : need.returns
@@ -29,4 +31,5 @@ returns c =
       answer = answer-ok (contentOf (c .args .frame)) (length (c .args .out .now)) (c .line-length-needed .result) u (c .line-length-needed .ensures .value) (c .if-out-needed .left);
       buffer = b;
       reads = buffer-reads (contentOf (c .args .frame)) (c .args .out .now) _ (c .line-length-needed .result) u (c .put-frame-end .ensures .fields) (c .line-length-needed .ensures .value) b;
+      within = (omega arith, simp length-set (omega arith));
     }

@@ -1,0 +1,33 @@
+// How many lines there were of each kind.
+ghost use mathlib.Core.Path.{_≡_};
+ghost use lib.ListN.{length, replicate};
+ghost use Rattle.wording.specs.Kinds.{countIn, counted};
+use super::kind::LineKind;
+
+#[derive(Drop)]
+pub struct Counts {
+    of_kind: [usize; 9],
+}
+
+impl Counts {
+    pub fn new() -> Counts
+        ensures { λ c. ⌜ c .«of_kind» ≡ replicate 9 0 ⌝ }
+    {
+        Counts { of_kind: [0; 9] }
+    }
+
+    // The count of one kind.
+    pub fn of(&self, kind: LineKind) -> usize
+        ensures { λ r. ⌜ r ≡ countIn (now (self .entry) .«of_kind») kind ⌝ }
+    {
+        self.of_kind[kind as usize]
+    }
+
+    // Counts one more line.
+    pub fn note(&mut self, kind: LineKind)
+        ensures { λ _. ⌜ now (self .exit) .«of_kind» ≡ counted (now (self .entry) .«of_kind») kind ⌝ }
+    {
+        let place = kind as usize;
+        self.of_kind[place] = self.of_kind[place].saturating_add(1);
+    }
+}
