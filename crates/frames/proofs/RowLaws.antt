@@ -6,7 +6,7 @@ use native.Mathlib.Omega.{arith}
 use lib.ListN.{length, getD, set, take, drop}
 use Rattle.std.proofs.shelf.Lists.{append-assoc, append-nil, drop-more, drop-all, take-more-set}
 use Rattle.terms.specs.declared.access.Access.{Access}
-use Rattle.frames.specs.Contents.{access}
+use Rattle.terms.specs.Accesses.{access}
 use Rattle.frames.specs.Reading.{accessesIn}
 
 -- the access in three bytes, and the rest

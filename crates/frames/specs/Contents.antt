@@ -26,9 +26,6 @@ pub data Content : Type 0 where
   setUpResidue : ℕ → ℕ → Content
   setUpListed : ℕ → ℕ → List ℕ → Content
 
-abbrev pub access : ℕ → ℕ → Access
-access m c = record { mode = m; cell = c }
-
 -- each access: its mode, then its cell
 abbrev pub accessBytes : List Access → List ℕ
 accessBytes [] = []

@@ -16,7 +16,8 @@ use Rattle.terms.specs.Refusals.{refuse}
 use Rattle.frames.specs.declared.fault.LineFault.{LineFault}
 use Rattle.frames.specs.declared.fault.LineFault.the-variants.{OddCount, NotHexadecimal, Empty, UnknownKind, WrongLength}
 use Rattle.frames.specs.Hex.{isDigit, bytesIn}
-use Rattle.frames.specs.Contents.{Content, access}
+use Rattle.terms.specs.Accesses.{access}
+use Rattle.frames.specs.Contents.{Content}
 use Rattle.frames.specs.Contents.Content.{append, assign, beginPark, resumeFinish, verdict, tally, setUpResidue, setUpListed}
 
 -- the number in bytes i and i + 1

@@ -1,4 +1,7 @@
 // What one line of a log asks for.
+ghost use mathlib.Core.Path.{_≡_};
+ghost use lib.ListN.{replicate};
+ghost use Rattle.terms.specs.Accesses.{access};
 use terms::Access;
 
 // A frame borrows its accesses or its table: from the caller who writes it, or from the room it was read into.
@@ -47,7 +50,11 @@ pub struct Room {
 }
 
 impl Room {
-    pub fn new() -> Room {
+    // A blank room.
+    pub fn new() -> Room
+        ensures bytes { λ r. ⌜ r .bytes ≡ replicate 1027 0 ⌝ }
+        ensures accesses { λ r. ⌜ r .accesses ≡ replicate 8 (access 0 0) ⌝ }
+    {
         Room {
             bytes: [0; 1027],
             accesses: [Access { mode: 0, cell: 0 }; 8],

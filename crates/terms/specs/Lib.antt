@@ -1,3 +1,4 @@
+pub mod Accesses
 pub mod Numbers
 pub mod Rules
 pub mod Maps

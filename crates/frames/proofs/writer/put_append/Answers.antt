@@ -2,7 +2,8 @@ use borrow.Author.Needs.{needs}
 use mathlib.Core.Path.{subst}
 use Rattle.std.proofs.shelf.Lists.{take-all}
 use native.Mathlib.Omega.{arith}
-use Rattle.frames.specs.Contents.{access, AccessesFit}
+use Rattle.terms.specs.Accesses.{access}
+use Rattle.frames.specs.Contents.{AccessesFit}
 use Rattle.frames.proofs.WriteLaws.{length-append-line, append-more, append-all, fit-more}
 use Rattle.frames.proofs.writer.put_append.Needs as need
 
