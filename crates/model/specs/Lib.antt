@@ -1,0 +1,9 @@
+pub mod Faults
+pub mod Finding
+pub mod Words
+pub mod Book
+pub mod Needs
+pub mod Sheets
+pub mod State
+pub mod Model
+pub mod Law
