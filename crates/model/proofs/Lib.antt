@@ -1,0 +1,11 @@
+pub mod Found
+pub mod Sharing
+pub mod Booked
+pub mod Needed
+pub mod Invariant
+pub mod Oldest
+pub mod Counting
+pub mod Appending
+pub mod Moving
+pub mod Assigning
+pub mod Finishing
