@@ -91,8 +91,8 @@ module _ (P : Setup) (L : Lawful P) (it : ℕ → Intention) (h : History) (s : 
   wanted-is v l =
       subst (λ y. wanted (P .map) s v ≡ cond (eqb v 0) (cond (isJoint m y) 0 (lastJoint m it (worker m y) (nextNumber s))) (cond (isJoint m y && touches m y v) (lastPlain m it v (nextNumber s)) 0)) next-is
       (cond-same (eqb v 0)
-        (λ _. cond-same (isJoint m (nextIntention s)) (λ _. refl) (λ _. joint-then (nextWorker P s) low))
-        (λ e. cond-same (isJoint m (nextIntention s) && touches m (nextIntention s) v) (λ _. plain-then v (omega (arith, eqb-false v 0 e)) l) (λ _. refl)))
+      (λ _. cond-same (isJoint m (nextIntention s)) (λ _. refl) (λ _. joint-then (nextWorker P s) low))
+      (λ e. cond-same (isJoint m (nextIntention s) && touches m (nextIntention s) v) (λ _. plain-then v (omega (arith, eqb-false v 0 e)) l) (λ _. refl)))
 
   right : RightNeeds P it (nextOrder (P .map) s)
   right v l = getD-map-counting (wanted m s) 0 16 v v 0 (omega arith) (omega arith) ∙ wanted-is v l
@@ -102,24 +102,28 @@ module _ (P : Setup) (L : Lawful P) (it : ℕ → Intention) (h : History) (s : 
   joint-now p l =
       subst (λ y. getD (jointsAfter m s) p 0 ≡ cond (isJoint m y && touches m y p) (nextNumber s) (last (λ j. isJoint m (it j) && touches m (it j) p) (nextNumber s))) next-is
       (elim (cases-bool (isJoint m (nextIntention s))) [
-        inl t ↦ rw t (getD-map-counting (λ p. cond (touches m (nextIntention s) p) (nextNumber s) (getD (s .joints) p 0)) 0 16 p p 0 (omega arith) (omega arith) ∙ cond-same (touches m (nextIntention s) p) (λ _. refl) (λ _. joint-then p l))
-      | inr t ↦ rw t (joint-then p l) ])
+        | inl t ↦ rw t (getD-map-counting (λ p. cond (touches m (nextIntention s) p) (nextNumber s) (getD (s .joints) p 0)) 0 16 p p 0 (omega arith) (omega arith) ∙ cond-same (touches m (nextIntention s) p) (λ _. refl) (λ _. joint-then p l))
+        | inr t ↦ rw t (joint-then p l)
+      ])
 
   plain-now : (p : ℕ) → 0 < p → p ≤ 15 → getD (plainsAfter (P .map) s) p 0 ≡ lastPlain (P .map) it p (suc (nextNumber s))
   unfolding lastPlain last
   plain-now p b l =
       subst (λ y. getD (plainsAfter m s) p 0 ≡ cond (eqb (worker m y) p) (nextNumber s) (last (λ j. eqb (worker m (it j)) p) (nextNumber s))) next-is
       (elim (cases-eq (worker m (nextIntention s)) 0) [
-        inl e ↦ rw (eq-eqb _ _ e, ne-eqb (worker m (nextIntention s)) p (omega arith)) (plain-then p b l)
-      | inr e ↦ rw (ne-eqb _ _ e) (at-set (s .plains) (nextWorker P s) (nextNumber s) 0 p (λ n. n ≡ cond (eqb (worker m (nextIntention s)) p) (nextNumber s) (last (λ j. eqb (worker m (it j)) p) (nextNumber s))) (omega (arith, I .lasts .plains-size, low))
-          (λ q. sym (cond-true (eqb (worker m (nextIntention s)) p) _ _ (eq-eqb _ p (sym q))))
-          (λ q. plain-then p b l ∙ sym (cond-false (eqb (worker m (nextIntention s)) p) _ _ (ne-eqb _ p (λ z. q (sym z)))))) ])
+        | inl e ↦ rw (eq-eqb _ _ e, ne-eqb (worker m (nextIntention s)) p (omega arith)) (plain-then p b l)
+        | inr e ↦ rw (ne-eqb _ _ e) (at-set (s .plains) (nextWorker P s) (nextNumber s) 0 p (λ n. n ≡ cond (eqb (worker m (nextIntention s)) p) (nextNumber s) (last (λ j. eqb (worker m (it j)) p) (nextNumber s))) (omega (arith, I .lasts .plains-size, low))
+            (λ q. sym (cond-true (eqb (worker m (nextIntention s)) p) _ _ (eq-eqb _ p (sym q))))
+            (λ q. plain-then p b l ∙ sym (cond-false (eqb (worker m (nextIntention s)) p) _ _ (ne-eqb _ p (λ z. q (sym z))))))
+      ])
 
   assign-lasts : Lasts P it (nextNumber s) (jointsAfter (P .map) s) (plainsAfter (P .map) s)
   assign-lasts = record {
     joints-size = cond-both (isJoint m (nextIntention s)) _ _ (λ (xs : List ℕ). length xs ≡ 16) (λ _. length-map-counting (λ p. cond (touches m (nextIntention s) p) (nextNumber s) (getD (s .joints) p 0)) 0 16) (λ _. I .lasts .joints-size);
     plains-size = cond-both (isJoint m (nextIntention s)) _ _ (λ (xs : List ℕ). length xs ≡ 16) (λ _. I .lasts .plains-size) (λ _. length-set (s .plains) _ _ ∙ I .lasts .plains-size);
-    joint = joint-now; plain = plain-now }
+    joint = joint-now;
+    plain = plain-now;
+  }
 
   -- ⟨ the workers ⟩
   assign-staff : Staff P it (nextNumber s) (put (workerAt (s .workers)) (nextWorker P s) (pushed (nextOrder (P .map) s) (workerAt (s .workers) (nextWorker P s))))
@@ -128,31 +132,39 @@ module _ (P : Setup) (L : Lawful P) (it : ℕ → Intention) (h : History) (s : 
       let home-next : worker m (it (suc (s .assigned))) ≡ w = ap (λ n. worker m (it n)) (sym next) ∙ sym home in
       record {
         queues = λ u. subst (λ n. Queue P it u (put at w x u .posted) (put at w x u .orders) n) (sym next)
-          (put-both at w x u (λ y. Queue P it u (y .posted) (y .orders) (suc (s .assigned)))
+            (put-both at w x u (λ y. Queue P it u (y .posted) (y .orders) (suc (s .assigned)))
             (λ e. rw e (queue-push P it w _ _ _ (nextOrder m s) (I .staff .queues w) next (sym home) right))
             (λ e. queue-skip P it u _ _ _ (I .staff .queues u) (λ z. e (sym z ∙ home-next))));
         opens = λ u. subst (λ f. isOn (put at w x u .status) ≡ true → Opened P it f (put at w x u)) (sym pk)
-          (put-both at w x u (λ y. isOn (y .status) ≡ true → Opened P it (posts at) y)
+            (put-both at w x u (λ y. isOn (y .status) ≡ true → Opened P it (posts at) y)
             (λ e o. let O = I .staff .opens w o in record {
               some = push-some (at w .orders) (nextOrder m s);
               oldest = ap (λ (y : Order). y .number) (push-oldest (at w .orders) (nextOrder m s) (O .some)) ∙ O .oldest;
-              clear = O .clear })
+              clear = O .clear;
+            })
             (λ e. I .staff .opens u));
-        clear = subst (λ f. (j : ℕ) → Fin P it f j → Clear P it f j) (sym pk) (I .staff .clear) }
+        clear = subst (λ f. (j : ℕ) → Fin P it f j → Clear P it f j) (sym pk) (I .staff .clear);
+      }
 
   -- ⟨ what the lines say ⟩
   told-assigned : Told P it (nextNumber s) ((nextWorker P s, nextNumber s) ∷ h .assigned) (h .granted) (h .finished) (posts (workerAt (s .workers))) (λ u. isOn (workerAt (s .workers) u .status)) (λ u. onNumber (workerAt (s .workers) u .status))
   told-assigned = record {
-    done = I .told .done; undone = I .told .undone; began = I .told .began; begun = I .told .begun;
+    done = I .told .done;
+    undone = I .told .undone;
+    began = I .told .began;
+    begun = I .told .begun;
     has = λ u j t. elim (or-cases (eqb u w && eqb j k) _ (sym (pairs-cons w k u j (h .assigned)) ∙ t)) [
-        inl here ↦
+      | inl here ↦
           let (a, b) = and-parts (eqb u w) (eqb j k) here in
           let e : j ≡ k = eqb-true j k b in
           (omega arith, omega arith, ap (λ n. worker m (it n)) e ∙ sym home ∙ sym (eqb-true u w a))
-      | inr there ↦ let r = I .told .has u j there in (r .0, omega (arith, r .1), r .2) ];
+      | inr there ↦ let r = I .told .has u j there in (r .0, omega (arith, r .1), r .2)
+    ];
     had = λ j p l. pairs-cons w k (worker m (it j)) j (h .assigned) ∙ elim (cases-eq j k) [
-        inl e ↦ or-left _ _ (and-from _ _ (eq-eqb _ w (ap (λ n. worker m (it n)) e ∙ sym home)) (eq-eqb j k e))
-      | inr e ↦ or-right _ _ (I .told .had j p (omega arith)) ] }
+      | inl e ↦ or-left _ _ (and-from _ _ (eq-eqb _ w (ap (λ n. worker m (it n)) e ∙ sym home)) (eq-eqb j k e))
+      | inr e ↦ or-right _ _ (I .told .had j p (omega arith))
+    ];
+  }
 
   assign-told : ToldOf P it (nextNumber s) ((nextWorker P s, nextNumber s) ∷ h .assigned) (h .granted) (h .finished) (put (workerAt (s .workers)) (nextWorker P s) (pushed (nextOrder (P .map) s) (workerAt (s .workers) (nextWorker P s))))
   assign-told =
@@ -170,10 +182,12 @@ module _ (P : Setup) (L : Lawful P) (it : ℕ → Intention) (h : History) (s : 
 
   ungranted : pairs (nextWorker P s) (nextNumber s) (h .granted) ≡ false
   ungranted = elim (cases-bool (pairs w k (h .granted))) [
-      inl t ↦ absurd (elim (I .told .began w k t) [
-          inl f ↦ fin-none f
-        | inr (o, n) ↦ let O = I .staff .opens w o in omega (arith, n, head-assigned P it h s I w (onNumber (at w .status)) (O .some) (O .oldest)) ])
-    | inr t ↦ t ]
+    | inl t ↦ absurd (elim (I .told .began w k t .1) [
+      | inl f ↦ fin-none f
+      | inr (o, n) ↦ let O = I .staff .opens w o in omega (arith, n, head-assigned P it h s I w (onNumber (at w .status)) (O .some) (O .oldest))
+    ])
+    | inr t ↦ t
+  ]
 
   assign-counts : Counts P it ((nextWorker P s, nextNumber s) ∷ h .assigned) (h .granted) (h .finished) (set (s .workers) (nextWorker P s) (pushed (nextOrder (P .map) s) (workerAt (s .workers) (nextWorker P s))))
   assign-counts =
@@ -182,27 +196,35 @@ module _ (P : Setup) (L : Lawful P) (it : ℕ → Intention) (h : History) (s : 
       record {
         load = omega (arith, C .load, sumBy-set (λ (y : Worker). length (y .orders)) (s .workers) w x noWorker b, length-append (at w .orders) (nextOrder m s ∷ []));
         once = λ j p. sumBy-cons (λ (y : ℕ × ℕ). cond (eqb j (y .1)) 1 0) (w, k) (h .assigned) ∙ elim (cases-eq j k) [
-            inl e ↦
+          | inl e ↦
               let a : cond (leb j (length (h .assigned))) 1 0 ≡ 0 = cond-false {A = ℕ} _ 1 0 (lt-leb j _ (omega (arith, I .assigned))) in
               let c : cond (leb j (suc (length (h .assigned)))) 1 0 ≡ 1 = cond-true {A = ℕ} _ 1 0 (le-leb j _ (omega (arith, I .assigned))) in
               omega (arith, cond-true {A = ℕ} (eqb j k) 1 0 (eq-eqb j k e), C .once j p)
           | inr e ↦
               let a : leb j (suc (length (h .assigned))) ≡ leb j (length (h .assigned)) = elim (cases-lt (length (h .assigned)) j) [
-                  inl l ↦ lt-leb j _ (omega (arith, I .assigned)) ∙ sym (lt-leb j _ l)
-                | inr l ↦ le-leb j _ (omega arith) ∙ sym (le-leb j _ l) ] in
-              omega (arith, cond-false {A = ℕ} (eqb j k) 1 0 (ne-eqb j k e), C .once j p, ap (λ t. cond {A = ℕ} t 1 0) a) ];
+                | inl l ↦ lt-leb j _ (omega (arith, I .assigned)) ∙ sym (lt-leb j _ l)
+                | inr l ↦ le-leb j _ (omega arith) ∙ sym (le-leb j _ l)
+              ] in
+              omega (arith, cond-false {A = ℕ} (eqb j k) 1 0 (ne-eqb j k e), C .once j p, ap (λ t. cond {A = ℕ} t 1 0) a)
+        ];
         homes = (sym home, C .homes);
         done = omega (arith, sumBy-cons (λ (y : ℕ × ℕ). cond (any (eqb (y .1)) (h .finished)) 1 0) (w, k) (h .assigned), C .done, cond-false {A = ℕ} _ 1 0 undone);
         opened =
-          let closed : isOpenOrder (h .granted) (h .finished) (w, k) ≡ false = rw ungranted in
-          omega (arith, sumBy-cons (λ (y : ℕ × ℕ). cond (isOpenOrder (h .granted) (h .finished) y) 1 0) (w, k) (h .assigned), C .opened, cond-false {A = ℕ} _ 1 0 closed, sumBy-set (λ (y : Worker). cond (isOn (y .status)) 1 0) (s .workers) w x noWorker b) }
+            let closed : isOpenOrder (h .granted) (h .finished) (w, k) ≡ false = rw ungranted in
+            omega (arith, sumBy-cons (λ (y : ℕ × ℕ). cond (isOpenOrder (h .granted) (h .finished) y) 1 0) (w, k) (h .assigned), C .opened, cond-false {A = ℕ} _ 1 0 closed, sumBy-set (λ (y : Worker). cond (isOn (y .status)) 1 0) (s .workers) w x noWorker b);
+      }
 
   pub keep-assign : Inv P it (entered h (assigned (nextWorker P s) (nextNumber s))) (assignLeaves P s)
   keep-assign = record {
-    agree = I .agree; assigned = omega (arith, I .assigned); finished = I .finished; bound = there; sixteen = length-set _ _ _ ∙ I .sixteen;
+    agree = I .agree;
+    assigned = omega (arith, I .assigned);
+    finished = I .finished;
+    bound = there;
+    sixteen = length-set _ _ _ ∙ I .sixteen;
     rows = I .rows;
     staff = subst (Staff P it k) (sym (seen P it h s I w x low)) assign-staff;
     marks = subst (λ f. Marks P it f (s .marks)) (sym (posted-same P it h s I w x low refl)) (I .marks);
     lasts = assign-lasts;
     told = subst (ToldOf P it k ((w, k) ∷ h .assigned) (h .granted) (h .finished)) (sym (seen P it h s I w x low)) assign-told;
-    counts = assign-counts }
+    counts = assign-counts;
+  }

@@ -19,8 +19,9 @@ module _ (r : RuleMeaning) (it : ℕ → Intention) where
   book-upto zero j h = let e : j ≡ 0 = omega arith in rw e
   book-upto (suc k) j h =
       elim (cases-eq j (suc k)) [
-        inl e ↦ rw e
-      | inr e ↦ cond-true (leb j k) _ _ (le-leb j k (omega arith)) ∙ book-upto k j (omega arith) ]
+        | inl e ↦ rw e
+        | inr e ↦ cond-true (leb j k) _ _ (le-leb j k (omega arith)) ∙ book-upto k j (omega arith)
+      ]
 
   pub book-aborted : (k : ℕ) → 0 < k → commits r it k ≡ false → (e : ℕ) × (it k .snapshot < e) × (e < k) × (commits r it e ≡ true) × (conflicts r (it e) (it k) ≡ true)
   unfolding book commits

@@ -27,6 +27,20 @@ module _ {X : Type 0} where
   each Q f [] = tt
   each Q f (x ∷ xs) = (f x, each Q f xs)
 
--- a sum over the first numbers, one more
-sum-upto : (g : ℕ → ℕ) (n : ℕ) → sumBy g (map (λ i. i) (counting 0 (n + 1))) ≡ sumBy g (map (λ i. i) (counting 0 n)) + g n
-sum-upto g n = sumBy-map-counting-more g (λ i. i) 0 n n (omega arith)
+  pub sum-map-by : {Y : Type 0} (f : X → ℕ) (g : Y → X) (ys : List Y) → sumBy f (map g ys) ≡ sumBy (λ y. f (g y)) ys
+  sum-map-by f g [] = refl
+  sum-map-by f g (y ∷ ys) = omega (arith, sumBy-cons f (g y) (map g ys), sumBy-cons (λ y. f (g y)) y ys, sum-map-by f g ys)
+
+  -- a sum over a list is one over its places
+  pub sum-places : (f : X → ℕ) (xs : List X) (n : ℕ) (d : X) → length xs ≡ n → sumBy f xs ≡ sumBy (λ i. f (getD xs i d)) (counting 0 n)
+  sum-places f xs n d e = ap (sumBy f) (fill-by-all (λ i. getD xs i d) xs n d e (λ k l. refl)) ∙ sum-map-by f (λ i. getD xs i d) (counting 0 n)
+
+sum-more : (f : ℕ → ℕ) (n : ℕ) → sumBy f (counting 0 (n + 1)) ≡ sumBy f (counting 0 n) + f n
+sum-more f n = omega (arith, sum-map-by f (λ i. i) (counting 0 (n + 1)), sum-map-by f (λ i. i) (counting 0 n), sumBy-map-counting-more f (λ (i : ℕ). i) 0 n n (omega arith))
+
+-- numbers that count nothing may be left out at the end
+pub sum-front : (f : ℕ → ℕ) (n d : ℕ) → ((u : ℕ) → n ≤ u → f u ≡ 0) → sumBy f (counting 0 (n + d)) ≡ sumBy f (counting 0 n)
+sum-front f n zero h = let e : n + 0 ≡ n = omega arith in ap (λ k. sumBy f (counting 0 k)) e
+sum-front f n (suc d) h =
+    let e : n + suc d ≡ (n + d) + 1 = omega arith in
+    ap (λ k. sumBy f (counting 0 k)) e ∙ omega (arith, sum-more f (n + d), h (n + d) (omega arith), sum-front f n d h)

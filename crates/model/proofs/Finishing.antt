@@ -58,13 +58,14 @@ marking-at P L k c m (a ∷ xs) marks len f hc hm =
     let few : a .mode < 4 = omega (arith, f .0 .0, L .rule .few) in
     marking-at P L k c m xs (set marks (4 * a .cell + a .mode) k) (length-set _ _ _ ∙ len) (f .1) hc hm
     ∙ elim (cases-bool (isAt c m a)) [
-      inl t ↦
-        let (x, y) = is-at c m a t in
-        let e : 4 * c + m ≡ 4 * a .cell + a .mode = omega arith in
-        rw (t, e, getD-set-same marks (4 * a .cell + a .mode) k 0 (omega (arith, len, few, f .0 .1))) (cond-both (any (isAt c m) xs) k k (λ n. n ≡ k) (λ _. refl) (λ _. refl))
-    | inr t ↦
-        let ne : 4 * c + m ≢ 4 * a .cell + a .mode = λ e. both-ways (isAt c m a) t (and-from _ _ (eq-eqb (a .cell) c (omega (arith, few))) (eq-eqb (a .mode) m (omega (arith, few)))) in
-        rw (t, getD-set-other marks (4 * a .cell + a .mode) (4 * c + m) k 0 ne) ]
+      | inl t ↦
+          let (x, y) = is-at c m a t in
+          let e : 4 * c + m ≡ 4 * a .cell + a .mode = omega arith in
+          rw (t, e, getD-set-same marks (4 * a .cell + a .mode) k 0 (omega (arith, len, few, f .0 .1))) (cond-both (any (isAt c m) xs) k k (λ n. n ≡ k) (λ _. refl) (λ _. refl))
+      | inr t ↦
+          let ne : 4 * c + m ≢ 4 * a .cell + a .mode = λ e. both-ways (isAt c m a) t (and-from _ _ (eq-eqb (a .cell) c (omega (arith, few))) (eq-eqb (a .mode) m (omega (arith, few)))) in
+          rw (t, getD-set-other marks (4 * a .cell + a .mode) (4 * c + m) k 0 ne)
+    ]
 
 module _ (P : Setup) (L : Lawful P) (it : ℕ → Intention) (h : History) (s : State) (I : Inv P it h s) (w k : ℕ) (held : fits s w k ≡ true) where
   abbrev at : ℕ → Worker
@@ -116,8 +117,9 @@ module _ (P : Setup) (L : Lawful P) (it : ℕ → Intention) (h : History) (s : 
   pub own-after : (j : ℕ) → Fin P it (posts (workerAt (s .workers))) j → Shares (P .map) (it k) (it j) → j < k
   own-after j f sh =
       elim (cases-lt k j) [
-        inl l ↦ absurd (unfinished (I .staff .clear j f k l sh))
-      | inr l ↦ elim (cases-eq j k) [ inl e ↦ absurd (unfinished (rw e at f)) | inr e ↦ omega arith ] ]
+        | inl l ↦ absurd (unfinished (I .staff .clear j f k l sh))
+        | inr l ↦ elim (cases-eq j k) [ inl e ↦ absurd (unfinished (rw e at f)) | inr e ↦ omega arith ]
+      ]
 
   -- ⟨ the verdict ⟩
   -- where a number commits by the marks, no committed one past its snapshot conflicts with it
@@ -131,12 +133,13 @@ module _ (P : Setup) (L : Lawful P) (it : ℕ → Intention) (h : History) (s : 
       let top : e ≤ markAt (s .marks) c i = I .marks .top c i e low-cell (omega (arith, low-mode, L .rule .few)) (omega (arith, past)) (record { fin = f; good = good; here = theirs }) in
       let t′ : (eqb (it k .snapshot + 1) k || not (hit (P .rule) (s .marks) (it k))) ≡ true = rw own-row at t in
       elim (or-cases (eqb (it k .snapshot + 1) k) _ t′) [
-        inl early ↦ omega (arith, eqb-true _ _ early, past, before)
-      | inr look ↦
-          let (a, is, up) = any-some (isAt c j) (it k .accesses) mine in
-          let (ac, am) = is-at c j a is in
-          both-ways _ (not-true _ look) (up (λ a. exists (hitBy (P .rule) (s .marks) (it k .snapshot) a) (P .rule .modes))
-            (exists-from _ (P .rule .modes) i low-mode (rw (ac, am) (and-from _ _ clash (lt-ltb _ _ (omega (arith, past))))))) ]
+        | inl early ↦ omega (arith, eqb-true _ _ early, past, before)
+        | inr look ↦
+            let (a, is, up) = any-some (isAt c j) (it k .accesses) mine in
+            let (ac, am) = is-at c j a is in
+            both-ways _ (not-true _ look) (up (λ a. exists (hitBy (P .rule) (s .marks) (it k .snapshot) a) (P .rule .modes))
+            (exists-from _ (P .rule .modes) i low-mode (rw (ac, am) (and-from _ _ clash (lt-ltb _ _ (omega (arith, past)))))))
+      ]
 
   -- where it aborts by the marks, one does
   not-committed : passes P s k ≡ false → commits (P .rule) it k ≡ true → ⊥
@@ -156,8 +159,9 @@ module _ (P : Setup) (L : Lawful P) (it : ℕ → Intention) (h : History) (s : 
   pub verdict-is : passes P s k ≡ commits (P .rule) it k
   verdict-is =
       elim (cases-bool (passes P s k)) [
-        inl t ↦ elim (cases-bool (commits (P .rule) it k)) [ inl b ↦ t ∙ sym b | inr b ↦ absurd (not-aborted t b) ]
-      | inr t ↦ elim (cases-bool (commits (P .rule) it k)) [ inl b ↦ absurd (not-committed t b) | inr b ↦ t ∙ sym b ] ]
+        | inl t ↦ elim (cases-bool (commits (P .rule) it k)) [ inl b ↦ t ∙ sym b | inr b ↦ absurd (not-aborted t b) ]
+        | inr t ↦ elim (cases-bool (commits (P .rule) it k)) [ inl b ↦ absurd (not-committed t b) | inr b ↦ t ∙ sym b ]
+      ]
 
   -- ⟨ what is finished after it ⟩
   abbrev after : ℕ → ℕ
@@ -172,51 +176,60 @@ module _ (P : Setup) (L : Lawful P) (it : ℕ → Intention) (h : History) (s : 
   fin-down : (j : ℕ) → Fin P it (posts (put (workerAt (s .workers)) w (posting k (workerAt (s .workers) w)))) j → (j ≡ k) ⊎ Fin P it (posts (workerAt (s .workers))) j
   fin-down j f =
       elim (cases-eq (worker (P .map) (it j)) w) [
-        inl e ↦
-          let g : j ≤ k = subst (λ (y : Worker). j ≤ y .posted) (put-same at w x (worker (P .map) (it j)) e) f in
-          elim (cases-eq j k) [ inl q ↦ inl q | inr q ↦ inr (head-first P it h s I w k some oldest j (omega arith) e) ]
-      | inr e ↦ inr (subst (λ (y : Worker). j ≤ y .posted) (put-other at w x (worker (P .map) (it j)) e) f) ]
+        | inl e ↦
+            let g : j ≤ k = subst (λ (y : Worker). j ≤ y .posted) (put-same at w x (worker (P .map) (it j)) e) f in
+            elim (cases-eq j k) [ inl q ↦ inl q | inr q ↦ inr (head-first P it h s I w k some oldest j (omega arith) e) ]
+        | inr e ↦ inr (subst (λ (y : Worker). j ≤ y .posted) (put-other at w x (worker (P .map) (it j)) e) f)
+      ]
 
   finish-staff : Staff P it (s .assigned) (put (workerAt (s .workers)) w (posting k (workerAt (s .workers) w)))
   finish-staff = record {
     queues = λ u. put-both at w x u (λ y. Queue P it u (y .posted) (y .orders) (s .assigned)) (λ e. rw e (head-rest P it h s I w k some oldest)) (λ _. I .staff .queues u);
     opens = λ u. put-both at w x u (λ y. isOn (y .status) ≡ true → Opened P it after y)
-      (λ e o. absurd (both-ways false refl o))
-      (λ e o. let O = I .staff .opens u o in record { some = O .some; oldest = O .oldest; clear = λ i l sh. fin-up i (O .clear i l sh) });
+        (λ e o. absurd (both-ways false refl o))
+        (λ e o. let O = I .staff .opens u o in record { some = O .some; oldest = O .oldest; clear = λ i l sh. fin-up i (O .clear i l sh) });
     clear = λ j f i l sh. elim (fin-down j f) [
-        inl e ↦ fin-up i (clear i (rw e at l) (rw e at sh))
-      | inr g ↦ fin-up i (I .staff .clear j g i l sh) ] }
+      | inl e ↦ fin-up i (clear i (rw e at l) (rw e at sh))
+      | inr g ↦ fin-up i (I .staff .clear j g i l sh)
+    ];
+  }
 
   -- ⟨ marks after it ⟩
   -- a mark is k's, which commits, or as it was
   mark-cases : (b : Bool) (c m : ℕ) → c ≤ 1023 → m < 4 →
-    ((b ≡ true) × (has (it k) c m ≡ true) × (markAt (cond b (marking k (rowAt (s .rows) k .intention .accesses) (s .marks)) (s .marks)) c m ≡ k))
-    ⊎ ((b ≡ true → has (it k) c m ≡ false) × (markAt (cond b (marking k (rowAt (s .rows) k .intention .accesses) (s .marks)) (s .marks)) c m ≡ markAt (s .marks) c m))
+      ((b ≡ true) × (has (it k) c m ≡ true) × (markAt (cond b (marking k (rowAt (s .rows) k .intention .accesses) (s .marks)) (s .marks)) c m ≡ k))
+      ⊎ ((b ≡ true → has (it k) c m ≡ false) × (markAt (cond b (marking k (rowAt (s .rows) k .intention .accesses) (s .marks)) (s .marks)) c m ≡ markAt (s .marks) c m))
   unfolding has
   mark-cases true c m hc hm =
       let e : markAt (marking k (rowAt (s .rows) k .intention .accesses) (s .marks)) c m ≡ cond (any (isAt c m) (it k .accesses)) k (markAt (s .marks) c m) = rw own-row (marking-at P L k c m (it k .accesses) (s .marks) (I .marks .size) known hc hm) in
       elim (cases-bool (any (isAt c m) (it k .accesses))) [
-        inl t ↦ inl (refl, t, e ∙ cond-true _ _ _ t)
-      | inr t ↦ inr ((λ _. t), e ∙ cond-false _ _ _ t) ]
+        | inl t ↦ inl (refl, t, e ∙ cond-true _ _ _ t)
+        | inr t ↦ inr ((λ _. t), e ∙ cond-false _ _ _ t)
+      ]
   mark-cases false c m hc hm = inr ((λ e. absurd (both-ways false refl e)), refl)
 
   finish-marks : Marks P it (posts (put (workerAt (s .workers)) w (posting k (workerAt (s .workers) w)))) (marksAfter P s k)
   finish-marks = record {
     size = cond-both (passes P s k) _ _ (λ (xs : List ℕ). length xs ≡ 4096) (λ _. marking-length k _ (s .marks) ∙ I .marks .size) (λ _. I .marks .size);
     is = λ c m hc hm p. elim (mark-cases (passes P s k) c m hc hm) [
-        inl (t, g, e) ↦ subst (Marked P it after c m) (sym e) (record { fin = fin-own; good = sym verdict-is ∙ t; here = g })
+      | inl (t, g, e) ↦ subst (Marked P it after c m) (sym e) (record { fin = fin-own; good = sym verdict-is ∙ t; here = g })
       | inr (_, e) ↦
           let M = I .marks .is c m hc hm (rw e at p) in
-          subst (Marked P it after c m) (sym e) (record { fin = fin-up _ (M .fin); good = M .good; here = M .here }) ];
+          subst (Marked P it after c m) (sym e) (record { fin = fin-up _ (M .fin); good = M .good; here = M .here })
+    ];
     top = λ c m j hc hm p M. elim (fin-down j (M .fin)) [
-        inl e ↦ elim (mark-cases (passes P s k) c m hc hm) [
-            inl (_, _, q) ↦ omega arith
-          | inr (g, q) ↦
-              let t : passes P s k ≡ true = verdict-is ∙ rw e at (M .good) in
-              absurd (both-ways (has (it k) c m) (g t) (rw e at (M .here))) ]
+      | inl e ↦ elim (mark-cases (passes P s k) c m hc hm) [
+        | inl (_, _, q) ↦ omega arith
+        | inr (g, q) ↦
+            let t : passes P s k ≡ true = verdict-is ∙ rw e at (M .good) in
+            absurd (both-ways (has (it k) c m) (g t) (rw e at (M .here)))
+      ]
       | inr f ↦ elim (mark-cases (passes P s k) c m hc hm) [
-            inl (_, g, q) ↦ let l : j < k = own-after j f (has-shares (P .map) (it k) (it j) c m m g (M .here)) in omega arith
-          | inr (_, q) ↦ let l : j ≤ markAt (s .marks) c m = I .marks .top c m j hc hm p (record { fin = f; good = M .good; here = M .here }) in omega arith ] ] }
+        | inl (_, g, q) ↦ let l : j < k = own-after j f (has-shares (P .map) (it k) (it j) c m m g (M .here)) in omega arith
+        | inr (_, q) ↦ let l : j ≤ markAt (s .marks) c m = I .marks .top c m j hc hm p (record { fin = f; good = M .good; here = M .here }) in omega arith
+      ]
+    ];
+  }
 
   -- ⟨ rows, lines and counts after it ⟩
   finish-rows : Rows P it (length (h .appended)) (k ∷ h .finished) (set (s .rows) (k - 1) (record { intention = rowAt (s .rows) k .intention; verdict = decided (passes P s k) }))
@@ -228,27 +241,37 @@ module _ (P : Setup) (L : Lawful P) (it : ℕ → Intention) (h : History) (s : 
         same = λ j p l. at-row j p (λ r. r .intention ≡ it j) (λ e. own-row ∙ ap it (sym e)) (λ _. I .rows .same j p l);
         known = I .rows .known;
         verdict = λ j p l. at-row j p (λ r. r .verdict ≡ cond (any (eqb j) (k ∷ h .finished)) (decided (commits (P .rule) it j)) Undecided)
-          (λ e. rw (any-cons j k (h .finished), eq-eqb j k e, verdict-is, e))
-          (λ e. rw (any-cons j k (h .finished), ne-eqb j k e) (I .rows .verdict j p l)) }
+            (λ e. rw (any-cons j k (h .finished), eq-eqb j k e, verdict-is, e))
+            (λ e. rw (any-cons j k (h .finished), ne-eqb j k e) (I .rows .verdict j p l));
+      }
 
   finish-told : ToldOf P it (s .assigned) (h .assigned) (h .granted) (k ∷ h .finished) (put (workerAt (s .workers)) w (posting k (workerAt (s .workers) w)))
   finish-told = record {
-    has = I .told .has; had = I .told .had;
+    has = I .told .has;
+    had = I .told .had;
     done = λ j t. elim (or-cases (eqb j k) _ (sym (any-cons j k (h .finished)) ∙ t)) [
-        inl here ↦ let e : j ≡ k = eqb-true j k here in (omega (arith, own-positive), subst (Fin P it after) (sym e) fin-own)
-      | inr there ↦ let r = I .told .done j there in (r .0, fin-up j (r .1)) ];
+      | inl here ↦ let e : j ≡ k = eqb-true j k here in (omega (arith, own-positive), subst (Fin P it after) (sym e) fin-own)
+      | inr there ↦ let r = I .told .done j there in (r .0, fin-up j (r .1))
+    ];
     undone = λ j p t.
-      let (a, b) = or-parts (eqb j k) _ (sym (any-cons j k (h .finished)) ∙ t) in
-      let u = I .told .undone j p b in
-      elim (cases-lt (after (worker (P .map) (it j))) j) [
-        inl l ↦ l
-      | inr l ↦ absurd (elim (fin-down j l) [ inl e ↦ eqb-false j k a e | inr f ↦ omega arith ]) ];
-    began = λ u j t. elim (I .told .began u j t) [
-        inl f ↦ inl (fin-up j f)
-      | inr (o, n) ↦ elim (cases-eq u w) [
-          inl q ↦ inl (let e : k ≡ j = sym number ∙ ap (λ v. onNumber (at v .status)) (sym q) ∙ n in subst (Fin P it after) e fin-own)
-        | inr q ↦ let e = put-other at w x u q in inr (ap (λ (y : Worker). isOn (y .status)) e ∙ o, ap (λ (y : Worker). onNumber (y .status)) e ∙ n) ] ];
-    begun = λ u. put-both at w x u (λ y. isOn (y .status) ≡ true → pairs u (onNumber (y .status)) (h .granted) ≡ true) (λ e o. absurd (both-ways false refl o)) (λ e. I .told .begun u) }
+        let (a, b) = or-parts (eqb j k) _ (sym (any-cons j k (h .finished)) ∙ t) in
+        let u = I .told .undone j p b in
+        elim (cases-lt (after (worker (P .map) (it j))) j) [
+          | inl l ↦ l
+          | inr l ↦ absurd (elim (fin-down j l) [ inl e ↦ eqb-false j k a e | inr f ↦ omega arith ])
+        ];
+    began = λ u j t. (
+      I .told .began u j t .0,
+      elim (I .told .began u j t .1) [
+        | inl f ↦ inl (fin-up j f)
+        | inr (o, n) ↦ elim (cases-eq u w) [
+          | inl q ↦ inl (let e : k ≡ j = sym number ∙ ap (λ v. onNumber (at v .status)) (sym q) ∙ n in subst (Fin P it after) e fin-own)
+          | inr q ↦ let e = put-other at w x u q in inr (ap (λ (y : Worker). isOn (y .status)) e ∙ o, ap (λ (y : Worker). onNumber (y .status)) e ∙ n)
+        ]
+      ],
+    );
+    begun = λ u. put-both at w x u (λ y. isOn (y .status) ≡ true → pairs u (onNumber (y .status)) (h .granted) ≡ true) (λ e o. absurd (both-ways false refl o)) (λ e. I .told .begun u);
+  }
 
   undone : any (eqb k) (h .finished) ≡ false
   undone = elim (cases-bool (any (eqb k) (h .finished))) [ inl t ↦ absurd (unfinished (I .told .done k t .1)) | inr t ↦ t ]
@@ -259,16 +282,18 @@ module _ (P : Setup) (L : Lawful P) (it : ℕ → Intention) (h : History) (s : 
   -- the order of k, and no other, becomes finished
   ends : All (λ y. cond (any (eqb (y .1)) (k ∷ h .finished)) 1 0 ≡ cond (any (eqb (y .1)) (h .finished)) 1 0 + cond (eqb k (y .1)) 1 0) (h .assigned)
   ends = all-weaker _ _ (λ y e. elim (cases-eq (y .1) k) [
-        inl q ↦ rw (any-cons (y .1) k (h .finished), q, eq-eqb k k refl, undone)
-      | inr q ↦ rw (any-cons (y .1) k (h .finished), ne-eqb (y .1) k q, ne-eqb k (y .1) (λ z. q (sym z))) (omega arith) ]) (h .assigned) (I .counts .homes)
+    | inl q ↦ rw (any-cons (y .1) k (h .finished), q, eq-eqb k k refl, undone)
+    | inr q ↦ rw (any-cons (y .1) k (h .finished), ne-eqb (y .1) k q, ne-eqb k (y .1) (λ z. q (sym z))) (omega arith)
+  ]) (h .assigned) (I .counts .homes)
 
   -- and is no more open
   closes : All (λ y. cond (isOpenOrder (h .granted) (h .finished) y) 1 0 ≡ cond (isOpenOrder (h .granted) (k ∷ h .finished) y) 1 0 + cond (eqb k (y .1)) 1 0) (h .assigned)
   closes = all-weaker _ _ (λ y e. elim (cases-eq (y .1) k) [
-        inl q ↦
-          let u : y .0 ≡ w = sym e ∙ ap (λ n. worker (P .map) (it n)) q ∙ home in
-          rw (any-cons (y .1) k (h .finished), q, u, eq-eqb k k refl, undone, was-granted)
-      | inr q ↦ rw (any-cons (y .1) k (h .finished), ne-eqb (y .1) k q, ne-eqb k (y .1) (λ z. q (sym z))) (omega arith) ]) (h .assigned) (I .counts .homes)
+    | inl q ↦
+        let u : y .0 ≡ w = sym e ∙ ap (λ n. worker (P .map) (it n)) q ∙ home in
+        rw (any-cons (y .1) k (h .finished), q, u, eq-eqb k k refl, undone, was-granted)
+    | inr q ↦ rw (any-cons (y .1) k (h .finished), ne-eqb (y .1) k q, ne-eqb k (y .1) (λ z. q (sym z))) (omega arith)
+  ]) (h .assigned) (I .counts .homes)
 
   finish-counts : Counts P it (h .assigned) (h .granted) (k ∷ h .finished) (set (s .workers) w (posting k (workerAt (s .workers) w)))
   finish-counts =
@@ -277,15 +302,23 @@ module _ (P : Setup) (L : Lawful P) (it : ℕ → Intention) (h : History) (s : 
       let one : countBy (λ (y : ℕ × ℕ). eqb k (y .1)) (h .assigned) ≡ 1 = C .once k own-positive ∙ cond-true _ _ _ (le-leb k (length (h .assigned)) (omega (arith, head-assigned P it h s I w k some oldest, I .assigned))) in
       record {
         load = omega (arith, C .load, sumBy-set (λ (y : Worker). length (y .orders)) (s .workers) w x noWorker b, drop-one (at w .orders) some);
-        once = C .once; homes = C .homes;
+        once = C .once;
+        homes = C .homes;
         done = omega (arith, C .done, one, sum-split _ _ _ (h .assigned) ends);
-        opened = omega (arith, C .opened, one, sum-split _ _ _ (h .assigned) closes, sumBy-set (λ (y : Worker). cond (isOn (y .status)) 1 0) (s .workers) w x noWorker b, cond-true {A = ℕ} (isOn (at w .status)) 1 0 on) }
+        opened = omega (arith, C .opened, one, sum-split _ _ _ (h .assigned) closes, sumBy-set (λ (y : Worker). cond (isOn (y .status)) 1 0) (s .workers) w x noWorker b, cond-true {A = ℕ} (isOn (at w .status)) 1 0 on);
+      }
 
   pub keep-finish : Inv P it (entered h (finished k)) (finishLeaves P s w k)
   keep-finish = record {
-    agree = I .agree; assigned = I .assigned; finished = omega (arith, I .finished); bound = I .bound; sixteen = length-set _ _ _ ∙ I .sixteen;
-    rows = finish-rows; lasts = I .lasts;
+    agree = I .agree;
+    assigned = I .assigned;
+    finished = omega (arith, I .finished);
+    bound = I .bound;
+    sixteen = length-set _ _ _ ∙ I .sixteen;
+    rows = finish-rows;
+    lasts = I .lasts;
     staff = subst (Staff P it (s .assigned)) (sym (seen P it h s I w x low)) finish-staff;
     marks = subst (λ f. Marks P it (posts f) (marksAfter P s k)) (sym (seen P it h s I w x low)) finish-marks;
     told = subst (ToldOf P it (s .assigned) (h .assigned) (h .granted) (k ∷ h .finished)) (sym (seen P it h s I w x low)) finish-told;
-    counts = finish-counts }
+    counts = finish-counts;
+  }

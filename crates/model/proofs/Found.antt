@@ -26,8 +26,9 @@ unfolding any
 any-in Q p [] f h = absurd (both-ways false refl h)
 any-in Q p (x ∷ xs) f h =
     elim (or-cases (p x) (any p xs) h) [
-      inl here ↦ (x, f .0, here, λ q e. or-left (q x) (any q xs) e)
-    | inr there ↦ let (a, b, c, d) = any-in Q p xs (f .1) there in (a, b, c, λ q e. or-right (q x) (any q xs) (d q e)) ]
+      | inl here ↦ (x, f .0, here, λ q e. or-left (q x) (any q xs) e)
+      | inr there ↦ let (a, b, c, d) = any-in Q p xs (f .1) there in (a, b, c, λ q e. or-right (q x) (any q xs) (d q e))
+    ]
 
 all-unit : {A : Type 0} (xs : List A) → All (λ _. Unit {0}) xs
 all-unit [] = tt
@@ -42,16 +43,18 @@ all-each p [] h q e = absurd (both-ways false refl e)
 all-each p (x ∷ xs) h q e =
     let hs = and-parts (p x) (all p xs) h in
     elim (or-cases (q x) (any q xs) e) [
-      inl here ↦ (x, hs .0, here)
-    | inr there ↦ all-each p xs (hs .1) q there ]
+      | inl here ↦ (x, hs .0, here)
+      | inr there ↦ all-each p xs (hs .1) q there
+    ]
 
 -- where no element stops the front, every element passes
 pub leading-all : {A : Type 0} (p : A → Bool) (xs : List A) → length xs ≤ leading p xs → All (λ x. p x ≡ true) xs
 leading-all p [] h = tt
 leading-all p (x ∷ xs) h =
     elim (cases-bool (p x)) [
-      inl t ↦ (t, leading-all p xs (let z : suc (length xs) ≤ 1 + leading p xs = rw t at h in omega arith))
-    | inr t ↦ absurd (let z : suc (length xs) ≤ 0 = rw t at h in omega arith) ]
+      | inl t ↦ (t, leading-all p xs (let z : suc (length xs) ≤ 1 + leading p xs = rw t at h in omega arith))
+      | inr t ↦ absurd (let z : suc (length xs) ≤ 0 = rw t at h in omega arith)
+    ]
 
 pub all-both : {A : Type 0} (Q R : A → Type 0) (xs : List A) → All Q xs → All R xs → All (λ x. Q x × R x) xs
 all-both Q R [] a b = tt
@@ -64,32 +67,36 @@ unfolding exists
 exists-some f zero h = absurd (both-ways false refl h)
 exists-some f (suc k) h =
     elim (or-cases (f k) (exists f k) h) [
-      inl t ↦ (k, omega arith, t)
-    | inr t ↦ let r = exists-some f k t in (r .0, omega arith, r .2) ]
+      | inl t ↦ (k, omega arith, t)
+      | inr t ↦ let r = exists-some f k t in (r .0, omega arith, r .2)
+    ]
 
 pub exists-from : (f : ℕ → Bool) (k e : ℕ) → e < k → f e ≡ true → exists f k ≡ true
 unfolding exists
 exists-from f zero e l h = absurd (omega arith)
 exists-from f (suc k) e l h =
     elim (cases-eq e k) [
-      inl q ↦ or-left (f k) (exists f k) (rw q at h)
-    | inr q ↦ or-right (f k) (exists f k) (exists-from f k e (omega arith) h) ]
+      | inl q ↦ or-left (f k) (exists f k) (rw q at h)
+      | inr q ↦ or-right (f k) (exists f k) (exists-from f k e (omega arith) h)
+    ]
 
 pub last-most : (f : ℕ → Bool) (k j : ℕ) → j < k → f j ≡ true → j ≤ last f k
 unfolding last
 last-most f zero j h e = omega arith
 last-most f (suc k) j h e =
     elim (cases-bool (f k)) [
-      inl t ↦ rw t (omega arith)
-    | inr t ↦ rw t (elim (cases-eq j k) [ inl q ↦ absurd (both-ways (f k) t (rw q at e)) | inr q ↦ last-most f k j (omega arith) e ]) ]
+      | inl t ↦ rw t (omega arith)
+      | inr t ↦ rw t (elim (cases-eq j k) [ inl q ↦ absurd (both-ways (f k) t (rw q at e)) | inr q ↦ last-most f k j (omega arith) e ])
+    ]
 
 pub last-is : (f : ℕ → Bool) (k : ℕ) → 0 < last f k → (last f k < k) × (f (last f k) ≡ true)
 unfolding last
 last-is f zero h = absurd (omega arith)
 last-is f (suc k) h =
     elim (cases-bool (f k)) [
-      inl t ↦ rw t (omega arith, t)
-    | inr t ↦ rw t (let r = last-is f k (rw t at h) in (omega arith, r .1)) ]
+      | inl t ↦ rw t (omega arith, t)
+      | inr t ↦ rw t (let r = last-is f k (rw t at h) in (omega arith, r .1))
+    ]
 
 pub last-none : (f : ℕ → Bool) → last f 1 ≡ 0
 unfolding last
@@ -101,8 +108,9 @@ last-none f = elim (cases-bool (f 0)) [ inl t ↦ rw t | inr t ↦ rw t ]
 pub at-set : {A : Type 0} (xs : List A) (w : ℕ) (x d : A) (u : ℕ) (Q : A → Type 0) → w < length xs → (u ≡ w → Q x) → ((u ≡ w → ⊥) → Q (getD xs u d)) → Q (getD (set xs w x) u d)
 at-set xs w x d u Q l same other =
     elim (cases-eq u w) [
-      inl e ↦ subst Q (sym (ap (λ i. getD (set xs w x) i d) e ∙ getD-set-same xs w x d l)) (same e)
-    | inr e ↦ subst Q (sym (getD-set-other xs w u x d e)) (other e) ]
+      | inl e ↦ subst Q (sym (ap (λ i. getD (set xs w x) i d) e ∙ getD-set-same xs w x d l)) (same e)
+      | inr e ↦ subst Q (sym (getD-set-other xs w u x d e)) (other e)
+    ]
 
 -- ⟨ answers ⟩
 

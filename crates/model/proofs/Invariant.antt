@@ -89,7 +89,7 @@ pub record Told (P : Setup) (it : ℕ → Intention) (count : ℕ) (assigned gra
   pub undone : (k : ℕ) → 0 < k → any (eqb k) finished ≡ false → posted (worker (P .map) (it k)) < k
   pub has : (w k : ℕ) → pairs w k assigned ≡ true → (0 < k) × (k ≤ count) × (worker (P .map) (it k) ≡ w)
   pub had : (k : ℕ) → 0 < k → k ≤ count → pairs (worker (P .map) (it k)) k assigned ≡ true
-  pub began : (w k : ℕ) → pairs w k granted ≡ true → Fin P it posted k ⊎ ((on w ≡ true) × (number w ≡ k))
+  pub began : (w k : ℕ) → pairs w k granted ≡ true → (0 < k) × (Fin P it posted k ⊎ ((on w ≡ true) × (number w ≡ k)))
   pub begun : (w : ℕ) → on w ≡ true → pairs w (number w) granted ≡ true
 
 abbrev pub ToldOf : Setup → (ℕ → Intention) → ℕ → List (ℕ × ℕ) → List (ℕ × ℕ) → List ℕ → (ℕ → Worker) → Type 0

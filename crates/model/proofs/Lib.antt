@@ -9,3 +9,7 @@ pub mod Appending
 pub mod Moving
 pub mod Assigning
 pub mod Finishing
+pub mod Following
+pub mod Holding
+pub mod Stands
+pub mod Continuing

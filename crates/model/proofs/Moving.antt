@@ -47,11 +47,15 @@ begin-passed P s w ticket e =
     let (c3, e3) = passed (isEmpty (workerAt (s .workers) w .orders)) (NoOrder w) _ ticket e2 in
     let (c4, e4) = passed (exists (lacks s (oldestAt s w)) (P .map .partitions + 1)) (NeedNotPosted (oldestAt s w .number)) _ ticket e3 in
     record {
-      known = ltb-false _ _ c1; idle = c2; some = c3;
+      known = ltb-false _ _ c1;
+      idle = c2;
+      some = c3;
       oldest = sym (ap (λ (t : ℕ × ℕ). t .1) (ok-same ticket (w, oldestAt s w .number) e4));
       ready = λ v l. elim (cases-bool (lacks s (oldestAt s w) v)) [
-          inl t ↦ absurd (both-ways _ c4 (exists-from (lacks s (oldestAt s w)) (P .map .partitions + 1) v (omega arith) t))
-        | inr t ↦ ltb-false _ _ t ] }
+        | inl t ↦ absurd (both-ways _ c4 (exists-from (lacks s (oldestAt s w)) (P .map .partitions + 1) v (omega arith) t))
+        | inr t ↦ ltb-false _ _ t
+      ];
+    }
 
 module _ (P : Setup) (it : ℕ → Intention) (h : History) (s : State) (I : Inv P it h s) where
   -- the workers after a write at w, as a function
@@ -65,8 +69,9 @@ module _ (P : Setup) (it : ℕ → Intention) (h : History) (s : State) (I : Inv
   pub on-low : (w : ℕ) → isOn (workerAt (s .workers) w .status) ≡ true → w ≤ 15
   on-low w o =
       elim (cases-lt 15 w) [
-        inl l ↦ absurd (both-ways (isOn (workerAt (s .workers) w .status)) (ap (λ (x : Worker). isOn (x .status)) (getD-past (s .workers) w noWorker (omega (arith, I .sixteen)))) o)
-      | inr l ↦ l ]
+        | inl l ↦ absurd (both-ways (isOn (workerAt (s .workers) w .status)) (ap (λ (x : Worker). isOn (x .status)) (getD-past (s .workers) w noWorker (omega (arith, I .sixteen)))) o)
+        | inr l ↦ l
+      ]
 
   -- ⟨ begin ⟩
   module _ (L : Lawful P) (w k : ℕ) (G : Granted P s w k) where
@@ -94,8 +99,9 @@ module _ (P : Setup) (it : ℕ → Intention) (h : History) (s : State) (I : Inv
     -- k was not granted before
     ungranted : pairs w k (h .granted) ≡ false
     ungranted = elim (cases-bool (pairs w k (h .granted))) [
-        inl t ↦ absurd (elim (I .told .began w k t) [ inl f ↦ unfinished f | inr (o, _) ↦ both-ways _ (G .idle) o ])
-      | inr t ↦ t ]
+      | inl t ↦ absurd (elim (I .told .began w k t .1) [ inl f ↦ unfinished f | inr (o, _) ↦ both-ways _ (G .idle) o ])
+      | inr t ↦ t
+    ]
 
     undone : any (eqb k) (h .finished) ≡ false
     undone = elim (cases-bool (any (eqb k) (h .finished))) [ inl t ↦ absurd (unfinished (I .told .done k t .1)) | inr t ↦ t ]
@@ -106,38 +112,50 @@ module _ (P : Setup) (it : ℕ → Intention) (h : History) (s : State) (I : Inv
         record {
           queues = λ u. put-both at w x u (λ y. Queue P it u (y .posted) (y .orders) (s .assigned)) (λ e. rw e (I .staff .queues w)) (λ _. I .staff .queues u);
           opens = λ u. subst (λ f. isOn (put at w x u .status) ≡ true → Opened P it f (put at w x u)) (sym pk)
-            (put-both at w x u (λ y. isOn (y .status) ≡ true → Opened P it (posts at) y)
+              (put-both at w x u (λ y. isOn (y .status) ≡ true → Opened P it (posts at) y)
               (λ e _. record { some = G .some; oldest = G .oldest; clear = clear })
               (λ e. I .staff .opens u));
-          clear = subst (λ f. (j : ℕ) → Fin P it f j → Clear P it f j) (sym pk) (I .staff .clear) }
+          clear = subst (λ f. (j : ℕ) → Fin P it f j → Clear P it f j) (sym pk) (I .staff .clear);
+        }
 
     begin-told : ToldOf P it (s .assigned) (h .assigned) ((w, k) ∷ h .granted) (h .finished) (put (workerAt (s .workers)) w (begun k (workerAt (s .workers) w)))
     begin-told =
         subst (λ f. Told P it (s .assigned) (h .assigned) ((w, k) ∷ h .granted) (h .finished) f (λ u. isOn (put at w x u .status)) (λ u. onNumber (put at w x u .status)))
-          (sym (put-keeps (λ (y : Worker). y .posted) at w x refl))
-          (record {
-            done = I .told .done; undone = I .told .undone; has = I .told .has; had = I .told .had;
-            began = λ u j t. elim (or-cases (eqb u w && eqb j k) _ (sym (pairs-cons w k u j (h .granted)) ∙ t)) [
-                inl here ↦
-                  let (a, b) = and-parts (eqb u w) (eqb j k) here in
-                  let e = put-same at w x u (eqb-true u w a) in
-                  inr (ap (λ (y : Worker). isOn (y .status)) e, ap (λ (y : Worker). onNumber (y .status)) e ∙ sym (eqb-true j k b))
-              | inr there ↦ elim (I .told .began u j there) [
-                  inl f ↦ inl f
+        (sym (put-keeps (λ (y : Worker). y .posted) at w x refl))
+        (record {
+          done = I .told .done;
+          undone = I .told .undone;
+          has = I .told .has;
+          had = I .told .had;
+          began = λ u j t. elim (or-cases (eqb u w && eqb j k) _ (sym (pairs-cons w k u j (h .granted)) ∙ t)) [
+            | inl here ↦
+                let (a, b) = and-parts (eqb u w) (eqb j k) here in
+                let e = put-same at w x u (eqb-true u w a) in
+                (omega (arith, late, eqb-true j k b), inr (ap (λ (y : Worker). isOn (y .status)) e, ap (λ (y : Worker). onNumber (y .status)) e ∙ sym (eqb-true j k b)))
+            | inr there ↦ (
+              I .told .began u j there .0,
+              elim (I .told .began u j there .1) [
+                | inl f ↦ inl f
                 | inr (o, n) ↦ elim (cases-eq u w) [
-                    inl q ↦ absurd (both-ways _ (G .idle) (rw q at o))
-                  | inr q ↦ let e = put-other at w x u q in inr (ap (λ (y : Worker). isOn (y .status)) e ∙ o, ap (λ (y : Worker). onNumber (y .status)) e ∙ n) ] ] ];
-            begun = λ u. put-both at w x u (λ y. isOn (y .status) ≡ true → pairs u (onNumber (y .status)) ((w, k) ∷ h .granted) ≡ true)
+                  | inl q ↦ absurd (both-ways _ (G .idle) (rw q at o))
+                  | inr q ↦ let e = put-other at w x u q in inr (ap (λ (y : Worker). isOn (y .status)) e ∙ o, ap (λ (y : Worker). onNumber (y .status)) e ∙ n)
+                ]
+              ],
+            )
+          ];
+          begun = λ u. put-both at w x u (λ y. isOn (y .status) ≡ true → pairs u (onNumber (y .status)) ((w, k) ∷ h .granted) ≡ true)
               (λ e _. pairs-cons w k u k (h .granted) ∙ or-left _ _ (and-from _ _ (eq-eqb u w e) (eq-eqb k k refl)))
-              (λ e o. pairs-cons w k u (onNumber (at u .status)) (h .granted) ∙ or-right _ _ (I .told .begun u o)) })
+              (λ e o. pairs-cons w k u (onNumber (at u .status)) (h .granted) ∙ or-right _ _ (I .told .begun u o));
+        })
 
     -- the order of k, and no other, becomes open
     turns : All (λ x. cond (isOpenOrder ((w, k) ∷ h .granted) (h .finished) x) 1 0 ≡ cond (isOpenOrder (h .granted) (h .finished) x) 1 0 + cond (eqb k (x .1)) 1 0) (h .assigned)
     turns = all-weaker _ _ (λ y e. elim (cases-eq (y .1) k) [
-          inl q ↦
-            let u : y .0 ≡ w = sym e ∙ ap (λ n. worker (P .map) (it n)) q ∙ home in
-            rw (pairs-cons w k (y .0) (y .1) (h .granted), q, u, eq-eqb w w refl, eq-eqb k k refl, ungranted, undone)
-        | inr q ↦ rw (pairs-cons w k (y .0) (y .1) (h .granted), ne-eqb (y .1) k q, ne-eqb k (y .1) (λ z. q (sym z))) (plain-cond (y .0) (y .1)) ]) (h .assigned) (I .counts .homes)
+      | inl q ↦
+          let u : y .0 ≡ w = sym e ∙ ap (λ n. worker (P .map) (it n)) q ∙ home in
+          rw (pairs-cons w k (y .0) (y .1) (h .granted), q, u, eq-eqb w w refl, eq-eqb k k refl, ungranted, undone)
+      | inr q ↦ rw (pairs-cons w k (y .0) (y .1) (h .granted), ne-eqb (y .1) k q, ne-eqb k (y .1) (λ z. q (sym z))) (plain-cond (y .0) (y .1))
+    ]) (h .assigned) (I .counts .homes)
       where
         plain-cond : (u j : ℕ) → cond (((eqb u w && false) || pairs u j (h .granted)) && not (any (eqb j) (h .finished))) 1 0 ≡ cond (isOpenOrder (h .granted) (h .finished) (u, j)) 1 0 + 0
         plain-cond u j = elim (cases-bool (eqb u w)) [ inl t ↦ rw t (omega arith) | inr t ↦ rw t (omega arith) ]
@@ -148,17 +166,26 @@ module _ (P : Setup) (it : ℕ → Intention) (h : History) (s : State) (I : Inv
         let one : countBy (λ (x : ℕ × ℕ). eqb k (x .1)) (h .assigned) ≡ 1 = C .once k (omega (arith, late)) ∙ cond-true _ _ _ (le-leb k (length (h .assigned)) (omega (arith, head-assigned P it h s I w k (G .some) (G .oldest), I .assigned))) in
         record {
           load = omega (arith, C .load, sumBy-set (λ (x : Worker). length (x .orders)) (s .workers) w x noWorker (omega (arith, I .sixteen, low)));
-          once = C .once; homes = C .homes; done = C .done;
-          opened = omega (arith, C .opened, one, sum-split _ _ _ (h .assigned) turns, sumBy-set (λ (x : Worker). cond (isOn (x .status)) 1 0) (s .workers) w x noWorker (omega (arith, I .sixteen, low)), cond-false {A = ℕ} (isOn (workerAt (s .workers) w .status)) 1 0 (G .idle)) }
+          once = C .once;
+          homes = C .homes;
+          done = C .done;
+          opened = omega (arith, C .opened, one, sum-split _ _ _ (h .assigned) turns, sumBy-set (λ (x : Worker). cond (isOn (x .status)) 1 0) (s .workers) w x noWorker (omega (arith, I .sixteen, low)), cond-false {A = ℕ} (isOn (workerAt (s .workers) w .status)) 1 0 (G .idle));
+        }
 
     pub keep-begin : Inv P it (entered h (granted w k)) (withWorker s w (begun k (workerAt (s .workers) w)))
     keep-begin = record {
-      agree = I .agree; assigned = I .assigned; finished = I .finished; bound = I .bound; sixteen = length-set _ _ _ ∙ I .sixteen;
-      rows = I .rows; lasts = I .lasts;
+      agree = I .agree;
+      assigned = I .assigned;
+      finished = I .finished;
+      bound = I .bound;
+      sixteen = length-set _ _ _ ∙ I .sixteen;
+      rows = I .rows;
+      lasts = I .lasts;
       staff = subst (Staff P it (s .assigned)) (sym (seen w x low)) begin-staff;
       marks = subst (λ f. Marks P it f (s .marks)) (sym (posted-same w x low refl)) (I .marks);
       told = subst (ToldOf P it (s .assigned) (h .assigned) ((w, k) ∷ h .granted) (h .finished)) (sym (seen w x low)) begin-told;
-      counts = begin-counts }
+      counts = begin-counts;
+    }
 
   -- ⟨ park, resume, recall ⟩
   -- an open worker w stays open on its number
@@ -173,21 +200,31 @@ module _ (P : Setup) (it : ℕ → Intention) (h : History) (s : State) (I : Inv
       let nk = put-keeps (λ (y : Worker). onNumber (y .status)) at w x n in
       let O = I .staff .opens w o in
       record {
-        agree = I .agree; assigned = I .assigned; finished = I .finished; bound = I .bound; sixteen = length-set _ _ _ ∙ I .sixteen;
-        rows = I .rows; lasts = I .lasts;
+        agree = I .agree;
+        assigned = I .assigned;
+        finished = I .finished;
+        bound = I .bound;
+        sixteen = length-set _ _ _ ∙ I .sixteen;
+        rows = I .rows;
+        lasts = I .lasts;
         staff = subst (Staff P it (s .assigned)) (sym (seen w x l)) (record {
           queues = λ u. put-both at w x u (λ y. Queue P it u (y .posted) (y .orders) (s .assigned)) (λ e. rw e (I .staff .queues w)) (λ _. I .staff .queues u);
           opens = λ u. subst (λ f. isOn (put at w x u .status) ≡ true → Opened P it f (put at w x u)) (sym pk)
-            (put-both at w x u (λ y. isOn (y .status) ≡ true → Opened P it (posts at) y)
+              (put-both at w x u (λ y. isOn (y .status) ≡ true → Opened P it (posts at) y)
               (λ e _. record { some = O .some; oldest = O .oldest ∙ sym n; clear = rw n (O .clear) })
               (λ e. I .staff .opens u));
-          clear = subst (λ f. (j : ℕ) → Fin P it f j → Clear P it f j) (sym pk) (I .staff .clear) });
+          clear = subst (λ f. (j : ℕ) → Fin P it f j → Clear P it f j) (sym pk) (I .staff .clear);
+        });
         marks = subst (λ f. Marks P it f (s .marks)) (sym (posted-same w x l refl)) (I .marks);
         told = subst (ToldOf P it (s .assigned) (h .assigned) (h .granted) (h .finished)) (sym (seen w x l))
-          (subst (λ f. Told P it (s .assigned) (h .assigned) (h .granted) (h .finished) f (λ u. isOn (put at w x u .status)) (λ u. onNumber (put at w x u .status))) (sym pk)
-          (subst (λ f. Told P it (s .assigned) (h .assigned) (h .granted) (h .finished) (posts at) f (λ u. onNumber (put at w x u .status))) (sym ok)
-          (subst (λ f. Told P it (s .assigned) (h .assigned) (h .granted) (h .finished) (posts at) (λ u. isOn (at u .status)) f) (sym nk) (I .told))));
+            (subst (λ f. Told P it (s .assigned) (h .assigned) (h .granted) (h .finished) f (λ u. isOn (put at w x u .status)) (λ u. onNumber (put at w x u .status))) (sym pk)
+            (subst (λ f. Told P it (s .assigned) (h .assigned) (h .granted) (h .finished) (posts at) f (λ u. onNumber (put at w x u .status))) (sym ok)
+            (subst (λ f. Told P it (s .assigned) (h .assigned) (h .granted) (h .finished) (posts at) (λ u. isOn (at u .status)) f) (sym nk) (I .told))));
         counts = record {
           load = omega (arith, I .counts .load, sumBy-set (λ (x : Worker). length (x .orders)) (s .workers) w x noWorker b);
-          once = I .counts .once; homes = I .counts .homes; done = I .counts .done;
-          opened = omega (arith, I .counts .opened, sumBy-set (λ (x : Worker). cond (isOn (x .status)) 1 0) (s .workers) w x noWorker b, cond-true {A = ℕ} (isOn (workerAt (s .workers) w .status)) 1 0 o, cond-true {A = ℕ} (isOn y) 1 0 oy) } }
+          once = I .counts .once;
+          homes = I .counts .homes;
+          done = I .counts .done;
+          opened = omega (arith, I .counts .opened, sumBy-set (λ (x : Worker). cond (isOn (x .status)) 1 0) (s .workers) w x noWorker b, cond-true {A = ℕ} (isOn (workerAt (s .workers) w .status)) 1 0 o, cond-true {A = ℕ} (isOn y) 1 0 oy);
+        };
+      }

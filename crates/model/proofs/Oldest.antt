@@ -31,7 +31,7 @@ module _ (P : Setup) (it : ℕ → Intention) (w : ℕ) where
   queue-skip low (o ∷ os) high q e = (q .0, q .1, q .2, q .3, queue-skip (o .number) os high (q .4) e)
 
   pub queue-head : (low : ℕ) (os : List Order) (high : ℕ) → isEmpty os ≡ false → Queue P it w low os high →
-    (low < oldestOf os .number) × (worker (P .map) (it (oldestOf os .number)) ≡ w) × NoneBetween P it w low (oldestOf os .number) × RightNeeds P it (oldestOf os) × Queue P it w (oldestOf os .number) (drop 1 os) high
+      (low < oldestOf os .number) × (worker (P .map) (it (oldestOf os .number)) ≡ w) × NoneBetween P it w low (oldestOf os .number) × RightNeeds P it (oldestOf os) × Queue P it w (oldestOf os .number) (drop 1 os) high
   queue-head low [] high e q = absurd (both-ways true e refl)
   queue-head low (o ∷ os) high e q = q
 
@@ -80,10 +80,11 @@ module _ (P : Setup) (it : ℕ → Intention) (h : History) (s : State) (I : Inv
     pub head-clear : Lawful P → ((v : ℕ) → v ≤ P .map .partitions → needOf (P .map) it k v ≤ workerAt (s .workers) v .posted) → Clear P it (posts (workerAt (s .workers))) k
     head-clear L r i l sh =
         elim (cases-eq (worker (P .map) (it i)) w) [
-          inl e ↦ head-first i l e
-        | inr e ↦
-            let m : i ≤ needOf (P .map) it k (worker (P .map) (it i)) = need-most (P .map) it k i l sh (λ g. e (g ∙ head-home)) in
-            omega (arith, r (worker (P .map) (it i)) (worker-most (P .map) (L .map) (it i))) ]
+          | inl e ↦ head-first i l e
+          | inr e ↦
+              let m : i ≤ needOf (P .map) it k (worker (P .map) (it i)) = need-most (P .map) it k i l sh (λ g. e (g ∙ head-home)) in
+              omega (arith, r (worker (P .map) (it i)) (worker-most (P .map) (L .map) (it i)))
+        ]
 
     -- a need is not posted: it is itself an earlier number that shares a partition and is not finished
     pub head-blocked : (v : ℕ) → workerAt (s .workers) v .posted < needOf (P .map) it k v → (j : ℕ) × (j < k) × Shares (P .map) (it j) (it k) × (workerAt (s .workers) (worker (P .map) (it j)) .posted < j)

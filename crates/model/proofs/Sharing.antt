@@ -75,19 +75,22 @@ module _ (m : MapMeaning) where
   home-one [] q h t = absurd (omega arith)
   home-one (a ∷ rest) q h t =
       elim (cases-bool (all (liesIn m (m .partition (a .cell))) rest)) [
-        inl e ↦ rw e
-          (elim (or-cases (eqb (m .partition (a .cell)) q) _ t) [
-            inl here ↦ sym (eqb-true _ _ here)
-          | inr there ↦ let r = all-each _ rest e _ there in omega (arith, eqb-true _ _ (r .1), eqb-true _ _ (r .2)) ])
-      | inr e ↦ absurd (let z : 0 < 0 = rw e at h in omega arith) ]
+        | inl e ↦ rw e
+            (elim (or-cases (eqb (m .partition (a .cell)) q) _ t) [
+              | inl here ↦ sym (eqb-true _ _ here)
+              | inr there ↦ let r = all-each _ rest e _ there in omega (arith, eqb-true _ _ (r .1), eqb-true _ _ (r .2))
+            ])
+        | inr e ↦ absurd (let z : 0 < 0 = rw e at h in omega arith)
+      ]
 
   home-touches : (xs : List Access) → 0 < home m xs → any (liesIn m (home m xs)) xs ≡ true
   unfolding home any
   home-touches [] h = absurd (omega arith)
   home-touches (a ∷ rest) h =
       elim (cases-bool (all (liesIn m (m .partition (a .cell))) rest)) [
-        inl e ↦ rw e (or-left _ _ (eq-eqb (m .partition (a .cell)) (m .partition (a .cell)) refl))
-      | inr e ↦ absurd (let z : 0 < 0 = rw e at h in omega arith) ]
+        | inl e ↦ rw e (or-left _ _ (eq-eqb (m .partition (a .cell)) (m .partition (a .cell)) refl))
+        | inr e ↦ absurd (let z : 0 < 0 = rw e at h in omega arith)
+      ]
 
   -- a plain intention touches its worker's partition and no other
   pub worker-one : (x : Intention) (q : ℕ) → 0 < worker m x → touches m x q ≡ true → q ≡ worker m x

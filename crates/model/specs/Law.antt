@@ -36,59 +36,48 @@ pub record Clashes (P : Setup) (sheet : List Line) (k : ℕ) (x : Clash) : Type 
 pub record Law (P : Setup) (sheet : List Line) : Type 0 where
   -- every answer, accepted or refused, is the one that the calls and the table give there
   pub answers : Sheet P sheet
-
   -- appends are numbered 1, 2, 3 and so on
   pub numbers :
-    (above : List Line) (snapshot k : ℕ) (accesses : List Access) →
-    Stood sheet (line (append snapshot accesses) (Ok k) ∷ above) → k ≡ appends above + 1
-
+      (above : List Line) (snapshot k : ℕ) (accesses : List Access) →
+      Stood sheet (line (append snapshot accesses) (Ok k) ∷ above) → k ≡ appends above + 1
   -- assigns go through the numbers in order, each to the intention's own worker
   pub homes :
-    (above : List Line) (k w : ℕ) →
-    Stood sheet (line assign (Ok (k, w)) ∷ above) → (k ≡ assigns above + 1) × (w ≡ worker (P .map) (intention sheet k))
-
+      (above : List Line) (k w : ℕ) →
+      Stood sheet (line assign (Ok (k, w)) ∷ above) → (k ≡ assigns above + 1) × (w ≡ worker (P .map) (intention sheet k))
   -- a finish ends as the book of one-at-a-time verdicts says
   pub outcomes :
-    (above : List Line) (w k j : ℕ) (outcome : Outcome) →
-    Stood sheet (line (finish w k) (Ok (j, outcome)) ∷ above) → (j ≡ k) × (verdictOf outcome ≡ oneAtATime P sheet k)
-
+      (above : List Line) (w k j : ℕ) (outcome : Outcome) →
+      Stood sheet (line (finish w k) (Ok (j, outcome)) ∷ above) → (j ≡ k) × (verdictOf outcome ≡ oneAtATime P sheet k)
   -- the clash that an abort names is a real one, by the book
   pub clashes :
-    (above : List Line) (w k j : ℕ) (x : Clash) →
-    Stood sheet (line (finish w k) (Ok (j, Abort x)) ∷ above) → Clashes P sheet k x
-
+      (above : List Line) (w k j : ℕ) (x : Clash) →
+      Stood sheet (line (finish w k) (Ok (j, Abort x)) ∷ above) → Clashes P sheet k x
   -- a verdict is the book's once a finish of the number stands above it, and until then undecided
   pub verdicts :
-    (above : List Line) (k : ℕ) (v : Verdict) →
-    Stood sheet (line (verdict k) (Ok v) ∷ above) → v ≡ cond (isFinished (history above) k) (oneAtATime P sheet k) Undecided
-
+      (above : List Line) (k : ℕ) (v : Verdict) →
+      Stood sheet (line (verdict k) (Ok v) ∷ above) → v ≡ cond (isFinished (history above) k) (oneAtATime P sheet k) Undecided
   -- a worker with an order has an oldest one
   pub oldest : (above : List Line) (w i : ℕ) → Stood sheet above → HasOrder above w i → (k : ℕ) × Oldest above w k
-
   -- begin on an idle worker with an order waits exactly if an earlier unfinished intention touches a partition
   -- that its oldest order touches, and else is granted
   pub begins :
-    (above : List Line) (w k : ℕ) (answer : Result (ℕ × ℕ) CallFault) →
-    Stood sheet (line (begin w) answer ∷ above) → Idle above w → Oldest above w k →
-    ((answer ≡ Err (NeedNotPosted k)) × Blocked P above k) ⊎ ((answer ≡ Ok (w, k)) × (Blocked P above k → ⊥))
-
+      (above : List Line) (w k : ℕ) (answer : Result (ℕ × ℕ) CallFault) →
+      Stood sheet (line (begin w) answer ∷ above) → Idle above w → Oldest above w k →
+      ((answer ≡ Err (NeedNotPosted k)) × Blocked P above k) ⊎ ((answer ≡ Ok (w, k)) × (Blocked P above k → ⊥))
   -- somebody can always go on: the worker of the lowest order of all is open on it, or begin there is granted
   pub goes-on :
-    (above : List Line) (w k : ℕ) → Stood sheet above → HasOrder above w k → ((j u : ℕ) → j < k → HasOrder above u j → ⊥) →
-    OpenOn above w k ⊎ Sheet P (line (begin w) (Ok (w, k)) ∷ above)
-
+      (above : List Line) (w k : ℕ) → Stood sheet above → HasOrder above w k → ((j u : ℕ) → j < k → HasOrder above u j → ⊥) →
+      OpenOn above w k ⊎ Sheet P (line (begin w) (Ok (w, k)) ∷ above)
   -- a tally counts the accepted lines above it, the open workers and the queued orders
   pub tallies :
-    (above : List Line) (x : Tally) → Stood sheet (line tally (Ok x) ∷ above) →
-    x ≡ record { appended = appends above; assigned = assigns above; finished = finishes above; «open» = openWorkers P above; queued = queuedOrders above }
-
+      (above : List Line) (x : Tally) → Stood sheet (line tally (Ok x) ∷ above) →
+      x ≡ record { appended = appends above; assigned = assigns above; finished = finishes above; «open» = openWorkers P above; queued = queuedOrders above }
   -- after every line, assigned = finished + open + queued
   pub balance : (above : List Line) → Stood sheet above → assigns above ≡ finishes above + openWorkers P above + queuedOrders above
-
   -- a need is that of the worker's oldest order, by its meaning over the appends
   pub needs :
-    (above : List Line) (w v n : ℕ) → Stood sheet (line (need w v) (Ok n) ∷ above) →
-    (k : ℕ) × Oldest above w k × (n ≡ needOf (P .map) (intention sheet) k v)
+      (above : List Line) (w v n : ℕ) → Stood sheet (line (need w v) (Ok n) ∷ above) →
+      (k : ℕ) × Oldest above w k × (n ≡ needOf (P .map) (intention sheet) k v)
 
 -- the theorem: for every rule and every map within their laws, every sheet that the calls give has the law
 abbrev pub Certifier-stands : Type 0

@@ -54,7 +54,13 @@ appendAnswer P s snapshot accesses =
 abbrev pub appendLeaves : State → ℕ → List Access → State
 appendLeaves s snapshot accesses = record {
   rows = s .rows ++ record { intention = record { snapshot = snapshot; accesses = accesses }; verdict = Undecided } ∷ [];
-  assigned = s .assigned; finished = s .finished; workers = s .workers; marks = s .marks; joints = s .joints; plains = s .plains }
+  assigned = s .assigned;
+  finished = s .finished;
+  workers = s .workers;
+  marks = s .marks;
+  joints = s .joints;
+  plains = s .plains;
+}
 
 abbrev pub appendAfter : Setup → State → ℕ → List Access → State
 appendAfter P s snapshot accesses = kept (appendAnswer P s snapshot accesses) s (λ _. appendLeaves s snapshot accesses)
@@ -100,9 +106,14 @@ plainsAfter m s = cond (isJoint m (nextIntention s)) (s .plains) (set (s .plains
 
 abbrev pub assignLeaves : Setup → State → State
 assignLeaves P s = record {
-  rows = s .rows; assigned = nextNumber s; finished = s .finished;
+  rows = s .rows;
+  assigned = nextNumber s;
+  finished = s .finished;
   workers = set (s .workers) (nextWorker P s) (pushed (nextOrder (P .map) s) (workerAt (s .workers) (nextWorker P s)));
-  marks = s .marks; joints = jointsAfter (P .map) s; plains = plainsAfter (P .map) s }
+  marks = s .marks;
+  joints = jointsAfter (P .map) s;
+  plains = plainsAfter (P .map) s;
+}
 
 abbrev pub assignAfter : Setup → State → State
 assignAfter P s = kept (assignAnswer P s) s (λ _. assignLeaves P s)
@@ -201,9 +212,13 @@ posting k x = record { status = Idle; posted = k; orders = drop 1 (x .orders) }
 abbrev pub finishLeaves : Setup → State → ℕ → ℕ → State
 finishLeaves P s w k = record {
   rows = set (s .rows) (k - 1) (record { intention = rowAt (s .rows) k .intention; verdict = decided (passes P s k) });
-  assigned = s .assigned; finished = s .finished + 1;
+  assigned = s .assigned;
+  finished = s .finished + 1;
   workers = set (s .workers) w (posting k (workerAt (s .workers) w));
-  marks = marksAfter P s k; joints = s .joints; plains = s .plains }
+  marks = marksAfter P s k;
+  joints = s .joints;
+  plains = s .plains;
+}
 
 abbrev pub finishAfter : Setup → State → ℕ → ℕ → State
 finishAfter P s w k = kept (finishAnswer P s w k) s (λ _. finishLeaves P s w k)
@@ -254,8 +269,12 @@ queuedAt x = length (x .orders) - cond (isOn (x .status)) 1 0
 
 abbrev pub tallyAnswer : State → Result Tally CallFault
 tallyAnswer s = Ok (record {
-  appended = lastNumber s; assigned = s .assigned; finished = s .finished;
-  «open» = countBy (λ x. isOn (x .status)) (s .workers); queued = sumBy queuedAt (s .workers) })
+  appended = lastNumber s;
+  assigned = s .assigned;
+  finished = s .finished;
+  «open» = countBy (λ x. isOn (x .status)) (s .workers);
+  queued = sumBy queuedAt (s .workers);
+})
 
 -- ⟨ every call ⟩
 

@@ -1,5 +1,7 @@
 // What a certifier is proved against: the types that its answers are made of, what every call answers and leaves,
 // and the law that holds of every sheet of calls.
+ghost use Rattle.model.specs.Law.{Certifier-stands};
+
 mod fault;
 mod status;
 mod tally;
@@ -11,3 +13,10 @@ pub use tally::Tally;
 pub use verdict::Clash;
 pub use verdict::Outcome;
 pub use verdict::Verdict;
+
+// The law holds of every sheet of calls, for every rule and every map within their laws. Only the contract matters.
+pub fn certifier_stands() -> u8
+    ensures { λ _. ⌜ Certifier-stands ⌝ }
+{
+    0
+}
