@@ -13,3 +13,4 @@ pub mod Following
 pub mod Holding
 pub mod Stands
 pub mod Continuing
+pub mod Worked

@@ -7,3 +7,4 @@ pub mod Sheets
 pub mod State
 pub mod Model
 pub mod Law
+pub mod Cases
