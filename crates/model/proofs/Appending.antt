@@ -1,31 +1,29 @@
 -- An accepted append keeps the invariant.
-use mathlib.Core.Bool.{Bool, true, false, cond, not, _&&_}
+use mathlib.Core.Bool.{false, not}
 use mathlib.Core.List.{List, [], _∷_, _++_}
 use mathlib.Core.Logic.{inl, inr}
 use mathlib.Core.Path.{_≡_, refl, sym, ap, subst, _∙_}
 use Prim.Native.Nat.{ℕ, suc, _+_, _-_, _≤_, _<_}
 use native.Mathlib.Omega.{arith}
 use lib.Dec.{eqb, ltb, leb}
-use lib.ListN.{length, getD, length-append}
-use Rattle.std.specs.declared.result.Result.{Result}
-use Rattle.std.specs.declared.result.Result.the-variants.{Ok, Err}
-use Rattle.std.specs.shelf.Lists.{All, leading}
+use lib.ListN.{length, length-append}
+use Rattle.std.specs.declared.result.Result.the-variants.{Ok}
+use Rattle.std.specs.shelf.Lists.{All}
 use Rattle.std.proofs.shelf.Elements.{all-weaker}
 use Rattle.std.proofs.shelf.Lists.{getD-append-left, getD-at}
-use Rattle.std.proofs.shelf.Tests.{both-ways, ltb-true, ltb-false, leb-true, eq-eqb, ne-eqb, cases-eq, cases-bool, cond-true, cond-false}
+use Rattle.std.proofs.shelf.Tests.{ltb-true, ltb-false, leb-true, eq-eqb, ne-eqb, cases-eq, cases-bool, cond-true, cond-false}
 use Rattle.terms.specs.Numbers.{within}
-use Rattle.model.specs.Faults.{CallFault}
 use Rattle.model.specs.declared.fault.CallFault.the-variants.{AccessCount, SnapshotAhead, UnknownMode, UnknownCell, LogFull}
 use Rattle.model.specs.declared.verdict.Verdict.the-variants.{Undecided}
 use Rattle.model.specs.Finding.{any}
-use Rattle.model.specs.Words.{Access, Intention, Setup, worker}
+use Rattle.model.specs.Words.{Access, Intention, Setup}
 use Rattle.model.specs.Sheets.{History, entered, numbered}
 use Rattle.model.specs.Sheets.Event.{appended}
 use Rattle.model.specs.State.{Row, State, noRow, rowAt, lastNumber}
 use Rattle.model.specs.Model.{knownModes, knownCells, appendAnswer, appendLeaves}
 use Rattle.model.proofs.Found.{leading-all, all-both, passed, ok-same}
 use Rattle.model.proofs.Sharing.{Known}
-use Rattle.model.proofs.Invariant.{Agrees, Rows, Inv}
+use Rattle.model.proofs.Invariant.{Agrees, Inv}
 use Rattle.model.proofs.Oldest.{fin-most}
 
 pub numbered-new : (xs : List (ℕ × Intention)) (k : ℕ) (x : Intention) → numbered ((k, x) ∷ xs) k ≡ x

@@ -1,5 +1,5 @@
 -- An accepted assign keeps the invariant: the last numbers that are stored give the needs by their meaning.
-use mathlib.Core.Bool.{Bool, true, false, cond, not, _&&_, _||_}
+use mathlib.Core.Bool.{Bool, true, false, cond, _&&_}
 use mathlib.Core.List.{List, [], _∷_, _++_, map}
 use mathlib.Core.Logic.{inl, inr}
 use mathlib.Core.Path.{_≡_, refl, sym, ap, subst, _∙_}
@@ -7,10 +7,7 @@ use Prim.Native.Nat.{ℕ, suc, _+_, _≤_, _<_}
 use native.Mathlib.Omega.{arith}
 use lib.Dec.{eqb, leb}
 use lib.ListN.{length, getD, set, length-set, length-append}
-use Rattle.std.specs.Iters.{counting}
-use Rattle.std.specs.declared.result.Result.{Result}
-use Rattle.std.specs.declared.result.Result.the-variants.{Ok, Err}
-use Rattle.std.specs.shelf.Lists.{sumBy, countBy}
+use Rattle.std.specs.declared.result.Result.the-variants.{Ok}
 use Rattle.std.proofs.shelf.Counted.{length-map-counting, getD-map-counting}
 use Rattle.std.proofs.shelf.Sums.{sumBy-set, sumBy-cons}
 use Rattle.std.proofs.shelf.Tests.{both-ways, leb-false, eqb-true, eqb-false, eq-eqb, ne-eqb, le-leb, lt-leb, cases-eq, cases-bool, cases-lt, and-parts, and-from, or-cases, or-left, or-right, cond-true, cond-false, cond-both}
@@ -21,7 +18,7 @@ use Rattle.model.specs.Words.{Intention, Setup, Lawful, touches, worker, isJoi
 use Rattle.model.specs.Needs.{lastJoint, lastPlain, needOf}
 use Rattle.model.specs.Sheets.{History, entered, pairs}
 use Rattle.model.specs.Sheets.Event.{assigned}
-use Rattle.model.specs.State.{Order, Worker, State, noWorker, lastNumber, rowAt, workerAt, isEmpty, oldestOf, isOn, onNumber}
+use Rattle.model.specs.State.{Order, Worker, State, noWorker, lastNumber, workerAt, isEmpty, oldestOf, isOn, onNumber}
 use Rattle.model.specs.Model.{nextNumber, nextIntention, nextWorker, assignAnswer, wanted, nextOrder, pushed, jointsAfter, plainsAfter, assignLeaves}
 use Rattle.model.proofs.Found.{at-set, passed, ok-same, put, put-both, put-keeps}
 use Rattle.model.proofs.Sharing.{worker-most}

@@ -1,12 +1,12 @@
 -- A call's own answer and state continue every sheet that leads to the state it is made at.
-use mathlib.Core.List.{List, [], _∷_}
-use mathlib.Core.Path.{_≡_, refl, sym, ap, subst, _∙_}
+use mathlib.Core.List.{[], _∷_}
+use mathlib.Core.Path.{_≡_, ap, subst, _∙_}
 use Rattle.model.specs.Words.{Setup, Lawful}
-use Rattle.model.specs.Sheets.{Call, Answer, Line}
+use Rattle.model.specs.Sheets.{Call, Answer}
 use Rattle.model.specs.Sheets.Line.{line}
 use Rattle.model.specs.State.{State, fresh}
-use Rattle.model.specs.Model.{Gives, after, stateOf, Sheet, Leads}
-use Rattle.model.specs.Law.{Law, Continues}
+use Rattle.model.specs.Model.{Gives, after, Sheet, Leads}
+use Rattle.model.specs.Law.{Continues}
 use Rattle.model.proofs.Stands.{holds}
 
 -- any call: with the answer that it gives at s, and the state that it leaves

@@ -1,13 +1,12 @@
 -- Sums and counts over a list, element by element.
-use mathlib.Core.Bool.{Bool, true, false, cond}
 use mathlib.Core.List.{List, [], _∷_}
-use mathlib.Core.Path.{_≡_, refl, sym, ap, _∙_}
-use Prim.Native.Nat.{ℕ, zero, suc, _+_, _≤_, _<_}
+use mathlib.Core.Path.{_≡_, refl, ap, _∙_}
+use Prim.Native.Nat.{ℕ, zero, suc, _+_, _≤_}
 use native.Mathlib.Omega.{arith}
 use lib.ListN.{length, getD}
 use Rattle.std.specs.Iters.{counting}
 use Rattle.std.specs.shelf.Lists.{All, sumBy, map}
-use Rattle.std.proofs.shelf.Counted.{fill-by-all, sumBy-map-counting-more, length-counting, getD-counting}
+use Rattle.std.proofs.shelf.Counted.{fill-by-all, sumBy-map-counting-more}
 use Rattle.std.proofs.shelf.Sums.{sumBy-cons}
 
 module _ {X : Type 0} where

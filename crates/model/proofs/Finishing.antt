@@ -1,17 +1,17 @@
 -- An accepted finish decides as the book does, and keeps the invariant.
-use mathlib.Core.Bool.{Bool, true, false, cond, not, _&&_, _||_}
+use mathlib.Core.Bool.{Bool, true, false, cond, not, _||_}
 use mathlib.Core.List.{List, [], _∷_}
 use mathlib.Core.Logic.{_⊎_, inl, inr, _≢_}
 use mathlib.Core.Path.{_≡_, refl, sym, ap, subst, _∙_}
-use Prim.Native.Nat.{ℕ, suc, _+_, _-_, _*_, _≤_, _<_}
+use Prim.Native.Nat.{ℕ, _+_, _-_, _*_, _≤_, _<_}
 use native.Mathlib.Omega.{arith}
-use lib.Dec.{eqb, ltb, leb}
-use lib.ListN.{length, getD, set, drop, length-set}
+use lib.Dec.{eqb}
+use lib.ListN.{length, set, drop, length-set}
 use lib.Seq.{getD-set-same, getD-set-other}
-use Rattle.std.specs.shelf.Lists.{All, sumBy, countBy}
+use Rattle.std.specs.shelf.Lists.{All, countBy}
 use Rattle.std.proofs.shelf.Elements.{all-weaker}
 use Rattle.std.proofs.shelf.Sums.{sumBy-set}
-use Rattle.std.proofs.shelf.Tests.{both-ways, ltb-true, lt-ltb, eqb-true, eqb-false, eq-eqb, ne-eqb, le-leb, cases-eq, cases-bool, cases-lt, and-parts, and-from, or-cases, or-parts, or-left, or-right, not-true, not-false, not-from-true, cond-true, cond-false, cond-both}
+use Rattle.std.proofs.shelf.Tests.{both-ways, ltb-true, lt-ltb, eqb-true, eqb-false, eq-eqb, ne-eqb, le-leb, cases-eq, cases-bool, cases-lt, and-parts, and-from, or-cases, or-parts, not-true, not-false, cond-true, cond-false, cond-both}
 use Rattle.terms.specs.Rules.{clashes}
 use Rattle.model.specs.declared.status.Status.the-variants.{Idle, Held, Parked}
 use Rattle.model.specs.declared.verdict.Verdict.the-variants.{Undecided}
@@ -22,11 +22,11 @@ use Rattle.model.specs.Sheets.{History, entered, pairs}
 use Rattle.model.specs.Sheets.Event.{finished}
 use Rattle.model.specs.State.{Row, Order, Status, Worker, State, noRow, noWorker, rowAt, workerAt, markAt, isEmpty, oldestOf, isOn, onNumber, isHeldOn}
 use Rattle.model.specs.Model.{fits, hitBy, hit, passes, marking, marksAfter, posting, finishLeaves}
-use Rattle.model.proofs.Found.{any-in, any-some, exists-some, exists-from, at-set, put, put-same, put-other, put-both, put-keeps}
+use Rattle.model.proofs.Found.{any-in, any-some, exists-some, exists-from, at-set, put, put-same, put-other, put-both}
 use Rattle.model.proofs.Sharing.{Known, is-at, at-itself, has-known, has-shares, conflict-some, conflict-from}
 use Rattle.model.proofs.Booked.{book-aborted, book-committed}
 use Rattle.model.proofs.Counting.{sum-split}
-use Rattle.model.proofs.Invariant.{posts, Fin, Clear, Queue, Marked, Opened, Rows, Staff, Marks, Told, ToldOf, isOpenOrder, Counts, Inv}
+use Rattle.model.proofs.Invariant.{posts, Fin, Clear, Queue, Marked, Opened, Rows, Staff, Marks, ToldOf, isOpenOrder, Counts, Inv}
 use Rattle.model.proofs.Oldest.{head-late, head-home, head-rest, head-assigned, head-first}
 use Rattle.model.proofs.Moving.{seen, on-low}
 

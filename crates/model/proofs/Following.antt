@@ -1,34 +1,32 @@
 -- Every sheet that the calls give leads to a state with the invariant.
-use mathlib.Core.Bool.{Bool, true, false, cond, not}
+use mathlib.Core.Bool.{true, false, cond, not}
 use mathlib.Core.List.{List, [], _∷_, _++_}
 use mathlib.Core.Logic.{inl, inr}
 use mathlib.Core.Path.{_≡_, refl, sym, ap, subst, fun-ext, _∙_}
-use Prim.Native.Nat.{ℕ, zero, suc, _+_, _-_, _*_, _≤_, _<_}
+use Prim.Native.Nat.{ℕ, zero, suc, _+_, _*_}
 use native.Mathlib.Omega.{arith}
-use lib.Dec.{eqb, ltb}
-use lib.ListN.{length, getD, replicate, length-append, length-set}
-use Rattle.std.specs.declared.result.Result.{Result}
+use lib.Dec.{ltb}
+use lib.ListN.{length, replicate, length-append, length-set}
 use Rattle.std.specs.declared.result.Result.the-variants.{Ok, Err}
 use Rattle.std.specs.shelf.Lists.{sumBy}
 use Rattle.std.proofs.shelf.Lists.{getD-replicate, getD-past, length-replicate}
 use Rattle.std.proofs.shelf.Sums.{sumBy-cons}
 use Rattle.std.proofs.shelf.Tests.{both-ways, lt-leb, cases-lt, cond-false, not-false}
-use Rattle.terms.specs.Refusals.{okAs}
 use Rattle.model.specs.Faults.{CallFault}
 use Rattle.model.specs.declared.fault.CallFault.the-variants.{UnknownWorker, NotParked, NotHeld, TicketUnfit}
 use Rattle.model.specs.declared.status.Status.the-variants.{Idle, Held, Parked}
 use Rattle.model.specs.Finding.{any}
-use Rattle.model.specs.Words.{Access, Intention, Setup, Lawful, worker}
+use Rattle.model.specs.Words.{Intention, Setup, Lawful}
 use Rattle.model.specs.Book.{Verdict, decided}
 use Rattle.model.specs.Needs.{lastJoint, lastPlain}
-use Rattle.model.specs.Sheets.{Call, Accepted, Answer, Line, Outcome, Stood, History, history, intention, numbered, appends}
+use Rattle.model.specs.Sheets.{Call, Line, Stood, history, intention, appends}
 use Rattle.model.specs.Sheets.Line.{line}
 use Rattle.model.specs.Sheets.Call.{append, assign, begin, park, resume, recall, finish, verdict, need, tally}
 use Rattle.model.specs.Sheets.Event.{assigned}
 use Rattle.model.specs.Sheets.{entered}
 use Rattle.model.specs.State.{Worker, Status, State, noWorker, noWorkers, noMarks, noNumbers, fresh, workerAt, isOn, onNumber, isHeld, isParked, withWorker, inStatus}
-use Rattle.model.specs.Model.{kept, appendAnswer, appendLeaves, nextNumber, nextWorker, assignAnswer, assignLeaves, beginAnswer, begun, fits, parkAnswer, resumeAnswer, recallAnswer, passes, finishAnswer, finishLeaves, verdictOf, Gives, after, callOf, stateOf, GivesLine, Sheet}
-use Rattle.model.proofs.Found.{last-none, passed, ok-same, kept-both}
+use Rattle.model.specs.Model.{kept, appendLeaves, assignLeaves, begun, fits, parkAnswer, resumeAnswer, recallAnswer, passes, finishAnswer, finishLeaves, verdictOf, Gives, after, callOf, stateOf, GivesLine, Sheet}
+use Rattle.model.proofs.Found.{last-none, passed, ok-same}
 use Rattle.model.proofs.Invariant.{Agrees, posts, Staff, Marks, ToldOf, Inv}
 use Rattle.model.proofs.Appending.{numbered-old, append-passed, keep-append}
 use Rattle.model.proofs.Moving.{begin-passed, keep-begin, keep-move}

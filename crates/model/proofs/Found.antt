@@ -1,11 +1,11 @@
 -- Tests over lists and numbers, places of a list after a write, and answers that are chains of checks.
-use mathlib.Core.Bool.{Bool, true, false, cond, _&&_}
+use mathlib.Core.Bool.{Bool, true, false, cond}
 use mathlib.Core.List.{List, [], _∷_}
 use mathlib.Core.Logic.{inl, inr}
 use mathlib.Core.Path.{_≡_, refl, sym, ap, subst, fun-ext, _∙_}
 use Prim.Native.Nat.{ℕ, zero, suc, _+_, _≤_, _<_}
 use native.Mathlib.Omega.{arith}
-use lib.Dec.{eqb, ltb}
+use lib.Dec.{eqb}
 use lib.ListN.{length, getD, set}
 use lib.Seq.{getD-set-same, getD-set-other}
 use Rattle.std.specs.declared.result.Result.{Result}
@@ -15,8 +15,6 @@ use Rattle.std.proofs.shelf.Tests.{both-ways, eqb-true, eqb-false, eq-eqb, ne-e
 use Rattle.terms.specs.Refusals.{refuse}
 use Rattle.model.specs.Faults.{CallFault}
 use Rattle.model.specs.Finding.{any, all, exists, last}
-use Rattle.model.specs.State.{State}
-use Rattle.model.specs.Model.{kept}
 
 -- ⟨ tests over a list ⟩
 
@@ -121,11 +119,6 @@ passed false fault else x h = (refl, h)
 
 pub ok-same : {A : Type 0} (x y : A) → _≡_ {A = Result A CallFault} (Ok x) (Ok y) → x ≡ y
 ok-same x y h = cc
-
--- what holds of the state as it was, and of the one that an accepted call leaves, holds of the state after
-pub kept-both : {A : Type 0} (Q : State → Type 0) (r : Result A CallFault) (s : State) (leaves : A → State) → Q s → ((x : A) → r ≡ Ok x → Q (leaves x)) → Q (kept r s leaves)
-kept-both Q (Ok x) s leaves q f = f x refl
-kept-both Q (Err fault) s leaves q f = q
 
 -- ⟨ a function after a write ⟩
 

@@ -1,30 +1,28 @@
 -- What the invariant says in the words of the sheet: who has which order, who waits, who can go on, and what is counted.
-use mathlib.Core.Bool.{Bool, true, false, cond, not, _&&_, _||_}
-use mathlib.Core.List.{List, [], _∷_, _++_}
+use mathlib.Core.Bool.{true, false, cond, not, _&&_}
+use mathlib.Core.List.{List, [], _∷_}
 use mathlib.Core.Logic.{_⊎_, inl, inr}
 use mathlib.Core.Path.{_≡_, refl, sym, ap, subst, _∙_}
-use Prim.Native.Nat.{ℕ, suc, _+_, _-_, _≤_, _<_}
+use Prim.Native.Nat.{ℕ, _+_, _-_, _≤_, _<_}
 use native.Mathlib.Omega.{arith}
-use lib.Dec.{eqb, ltb}
+use lib.Dec.{eqb}
 use lib.ListN.{length, getD}
 use Rattle.std.specs.Iters.{counting}
-use Rattle.std.specs.declared.result.Result.{Result}
 use Rattle.std.specs.declared.result.Result.the-variants.{Ok, Err}
 use Rattle.std.specs.shelf.Lists.{All, sumBy, countBy}
 use Rattle.std.proofs.shelf.Elements.{all-from-getD}
-use Rattle.std.proofs.shelf.Tests.{both-ways, ltb-true, ltb-false, le-ltb, eqb-true, eq-eqb, cases-eq, cases-bool, cases-lt, and-parts, and-from, not-true, not-from-false, cond-true, cond-false}
-use Rattle.model.specs.Faults.{CallFault}
+use Rattle.std.proofs.shelf.Tests.{both-ways, ltb-true, le-ltb, eqb-true, eq-eqb, cases-bool, cases-lt, and-parts, and-from, not-true, not-from-false, cond-true, cond-false}
 use Rattle.model.specs.declared.fault.CallFault.the-variants.{NeedNotPosted}
 use Rattle.model.specs.Finding.{any, exists}
-use Rattle.model.specs.Words.{Intention, Setup, Lawful, Shares, worker}
+use Rattle.model.specs.Words.{Intention, Setup, Lawful, worker}
 use Rattle.model.specs.Needs.{needOf}
-use Rattle.model.specs.Sheets.{Line, history, isFinished, isOpen, isQueued, pairs, intention, appends, assigns, finishes, openWorkers, queuedOrders, Unended, Unfinished, HasOrder, Oldest, OpenOn, Idle, Blocked}
+use Rattle.model.specs.Sheets.{Line, history, isFinished, isOpen, isQueued, pairs, intention, assigns, finishes, openWorkers, queuedOrders, Unended, HasOrder, Oldest, OpenOn, Idle, Blocked}
 use Rattle.model.specs.State.{Order, Worker, State, noWorker, workerAt, isEmpty, oldestOf, isOn, onNumber}
-use Rattle.model.specs.Model.{oldestAt, lacks, beginAnswer, queuedAt, stateOf, Sheet}
+use Rattle.model.specs.Model.{oldestAt, lacks, beginAnswer, queuedAt}
 use Rattle.model.proofs.Found.{any-some, exists-some}
 use Rattle.model.proofs.Sharing.{worker-most}
 use Rattle.model.proofs.Counting.{sum-split, sum-same, sum-ones, each, sum-places, sum-front}
-use Rattle.model.proofs.Invariant.{posts, Fin, Clear, isOpenOrder, Inv}
+use Rattle.model.proofs.Invariant.{isOpenOrder, Inv}
 use Rattle.model.proofs.Oldest.{queue-none, head-late, head-home, head-assigned, head-needs, head-none, head-clear, head-blocked}
 use Rattle.model.proofs.Moving.{Granted, begin-passed}
 

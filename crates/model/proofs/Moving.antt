@@ -1,32 +1,29 @@
 -- A granted begin keeps the invariant, and so do park, resume and recall, which only move an open worker between held and parked.
-use mathlib.Core.Bool.{Bool, true, false, cond, not, _&&_, _||_}
-use mathlib.Core.List.{List, [], _∷_}
+use mathlib.Core.Bool.{true, false, cond, not, _&&_, _||_}
+use mathlib.Core.List.{List, _∷_}
 use mathlib.Core.Logic.{inl, inr}
 use mathlib.Core.Path.{_≡_, refl, sym, ap, subst, _∙_}
-use Prim.Native.Nat.{ℕ, suc, _+_, _≤_, _<_}
+use Prim.Native.Nat.{ℕ, _+_, _≤_, _<_}
 use native.Mathlib.Omega.{arith}
-use lib.Dec.{eqb, ltb, leb}
+use lib.Dec.{eqb, ltb}
 use lib.ListN.{length, getD, set, length-set}
-use Rattle.std.specs.declared.result.Result.{Result}
-use Rattle.std.specs.declared.result.Result.the-variants.{Ok, Err}
-use Rattle.std.specs.shelf.Lists.{All, sumBy, countBy}
+use Rattle.std.specs.declared.result.Result.the-variants.{Ok}
+use Rattle.std.specs.shelf.Lists.{All, countBy}
 use Rattle.std.proofs.shelf.Elements.{all-weaker}
 use Rattle.std.proofs.shelf.Lists.{getD-past}
 use Rattle.std.proofs.shelf.Sums.{sumBy-set}
-use Rattle.std.proofs.shelf.Tests.{both-ways, ltb-true, ltb-false, eqb-true, eq-eqb, ne-eqb, le-leb, cases-eq, cases-lt, cases-bool, and-parts, and-from, or-cases, or-left, or-right, cond-true, cond-false}
+use Rattle.std.proofs.shelf.Tests.{both-ways, ltb-false, eqb-true, eq-eqb, ne-eqb, le-leb, cases-eq, cases-lt, cases-bool, and-parts, and-from, or-cases, or-left, or-right, cond-true, cond-false}
 use Rattle.model.specs.declared.fault.CallFault.the-variants.{UnknownWorker, WorkerOpen, NoOrder, NeedNotPosted}
-use Rattle.model.specs.declared.status.Status.the-variants.{Idle, Held, Parked}
 use Rattle.model.specs.Finding.{any, exists}
 use Rattle.model.specs.Words.{Intention, Setup, Lawful, worker}
-use Rattle.model.specs.Needs.{needOf}
 use Rattle.model.specs.Sheets.{History, entered, pairs}
 use Rattle.model.specs.Sheets.Event.{granted}
-use Rattle.model.specs.State.{Status, Worker, State, noWorker, workerAt, isEmpty, oldestOf, isOn, onNumber, isHeldOn, withWorker, inStatus}
+use Rattle.model.specs.State.{Status, Worker, State, noWorker, workerAt, isEmpty, oldestOf, isOn, onNumber, withWorker, inStatus}
 use Rattle.model.specs.Model.{oldestAt, lacks, beginAnswer, begun}
-use Rattle.model.proofs.Found.{exists-some, exists-from, passed, ok-same, put, put-same, put-other, put-both, put-keeps, set-put}
+use Rattle.model.proofs.Found.{exists-from, passed, ok-same, put, put-same, put-other, put-both, put-keeps, set-put}
 use Rattle.model.proofs.Counting.{sum-split}
 use Rattle.model.proofs.Invariant.{posts, Fin, Clear, Queue, Opened, Staff, Marks, Told, ToldOf, isOpenOrder, Counts, Inv}
-use Rattle.model.proofs.Oldest.{fin-most, head-late, head-home, head-assigned, head-needs, head-clear}
+use Rattle.model.proofs.Oldest.{head-late, head-home, head-assigned, head-needs, head-clear}
 
 pub pairs-cons : (w k u j : ℕ) (xs : List (ℕ × ℕ)) → pairs u j ((w, k) ∷ xs) ≡ ((eqb u w && eqb j k) || pairs u j xs)
 unfolding any

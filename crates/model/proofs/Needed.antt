@@ -1,6 +1,6 @@
 -- The two facts about needs that the law rests on: a need covers every earlier number of that worker that shares a partition,
 -- and a need above 0 is itself such a number.
-use mathlib.Core.Bool.{Bool, true, false, cond, _&&_}
+use mathlib.Core.Bool.{_&&_}
 use mathlib.Core.Logic.{inl, inr}
 use mathlib.Core.Path.{_≡_, refl, sym, _∙_}
 use Prim.Native.Nat.{ℕ, _≤_, _<_}

@@ -1,16 +1,16 @@
 -- A worker's orders, and its oldest one: what the invariant says of them.
-use mathlib.Core.Bool.{Bool, true, false}
+use mathlib.Core.Bool.{true, false}
 use mathlib.Core.List.{List, [], _∷_, _++_}
 use mathlib.Core.Logic.{inl, inr}
-use mathlib.Core.Path.{_≡_, refl, sym, ap, subst, _∙_}
-use Prim.Native.Nat.{ℕ, suc, _+_, _≤_, _<_}
+use mathlib.Core.Path.{_≡_, refl, ap, subst, _∙_}
+use Prim.Native.Nat.{ℕ, suc, _≤_, _<_}
 use native.Mathlib.Omega.{arith}
-use lib.ListN.{length, getD, drop}
+use lib.ListN.{getD, drop}
 use Rattle.std.proofs.shelf.Tests.{both-ways, cases-lt, cases-eq}
 use Rattle.model.specs.Words.{Intention, Setup, Lawful, Shares, worker}
 use Rattle.model.specs.Needs.{needOf}
 use Rattle.model.specs.Sheets.{History}
-use Rattle.model.specs.State.{Order, Worker, State, workerAt, isEmpty, oldestOf, isOn, onNumber}
+use Rattle.model.specs.State.{Order, Worker, State, workerAt, isEmpty, oldestOf}
 use Rattle.model.proofs.Sharing.{worker-most}
 use Rattle.model.proofs.Needed.{need-most, need-is}
 use Rattle.model.proofs.Invariant.{posts, Fin, Clear, NoneBetween, RightNeeds, Queue, Inv}

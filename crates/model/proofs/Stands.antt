@@ -1,39 +1,38 @@
 -- The theorem: every sheet that the calls give has the law. Field by field, from the invariant at the line's moment.
-use mathlib.Core.Bool.{Bool, true, false, cond, not, _&&_}
+use mathlib.Core.Bool.{true, cond, not}
 use mathlib.Core.List.{List, [], _∷_, _++_}
 use mathlib.Core.Logic.{_⊎_, inl, inr}
 use mathlib.Core.Path.{_≡_, refl, sym, ap, subst, _∙_}
-use Prim.Native.Nat.{ℕ, suc, _+_, _≤_, _<_}
+use Prim.Native.Nat.{ℕ, _+_, _<_}
 use native.Mathlib.Omega.{arith}
-use lib.Dec.{eqb, ltb, leb}
-use lib.ListN.{length, getD}
+use lib.Dec.{ltb, leb}
+use lib.ListN.{getD}
 use Rattle.std.specs.declared.result.Result.{Result}
 use Rattle.std.specs.declared.result.Result.the-variants.{Ok, Err}
-use Rattle.std.specs.shelf.Lists.{All}
 use Rattle.std.proofs.shelf.Tests.{both-ways, ltb-false, leb-true, cases-bool, and-parts, not-false}
 use Rattle.terms.specs.Numbers.{within}
 use Rattle.model.specs.Faults.{CallFault}
 use Rattle.model.specs.declared.fault.CallFault.the-variants.{UnknownWorker, NoOrder, NeedNotPosted, UnknownNumber}
-use Rattle.model.specs.declared.verdict.Outcome.the-variants.{Commit, Abort}
+use Rattle.model.specs.declared.verdict.Outcome.the-variants.{Abort}
 use Rattle.model.specs.declared.verdict.Verdict.the-variants.{Undecided}
-use Rattle.model.specs.Words.{Access, Intention, Setup, Lawful, has, worker}
+use Rattle.model.specs.Words.{Intention, Setup, Lawful, has, worker}
 use Rattle.model.specs.Book.{Verdict, commits, decided}
 use Rattle.model.specs.Needs.{needOf}
 use Rattle.model.specs.Sheets.{Line, Outcome, Clash, Tally, Stood, history, isFinished, intention, oneAtATime, appends, assigns, finishes, openWorkers, queuedOrders, HasOrder, Oldest, OpenOn, Idle, Blocked}
 use Rattle.model.specs.Sheets.Line.{line}
-use Rattle.model.specs.Sheets.Call.{append, assign, begin, finish, verdict, need, tally}
-use Rattle.model.specs.State.{State, lastNumber, rowAt, workerAt, markAt, isEmpty, oldestOf, isOn, onNumber}
-use Rattle.model.specs.Model.{nextNumber, nextWorker, beginAnswer, oldestAt, fits, passes, verdictOf, Shown, verdictAnswer, needAnswer, tallyAnswer, stateOf, GivesLine, Sheet}
+use Rattle.model.specs.Sheets.Call.{assign, begin, finish, verdict, need, tally}
+use Rattle.model.specs.State.{State, lastNumber, rowAt, workerAt, markAt, isEmpty, oldestOf, isOn}
+use Rattle.model.specs.Model.{nextNumber, nextWorker, beginAnswer, oldestAt, fits, verdictOf, Shown, stateOf, GivesLine, Sheet}
 use Rattle.model.specs.Law.{Clashes, Law, Certifier-stands}
 use Rattle.model.proofs.Found.{passed, ok-same}
 use Rattle.model.proofs.Sharing.{has-known, has-shares}
-use Rattle.model.proofs.Invariant.{Fin, Inv}
+use Rattle.model.proofs.Invariant.{Inv}
 use Rattle.model.proofs.Oldest.{head-assigned, head-needs}
 use Rattle.model.proofs.Appending.{append-passed}
 use Rattle.model.proofs.Assigning.{assign-passed}
 use Rattle.model.proofs.Finishing.{own-positive, own-there, own-row, own-after, verdict-is}
 use Rattle.model.proofs.Following.{finish-passed, sheet-then, inv-then, inv-now}
-use Rattle.model.proofs.Holding.{unended, stored-oldest, some-stored, oldest-stored, on-open, open-on, open-is, queued-is, balanced, waits-or-granted}
+use Rattle.model.proofs.Holding.{stored-oldest, some-stored, oldest-stored, on-open, open-on, open-is, queued-is, balanced, waits-or-granted}
 
 -- a clash that the marks show is one by the book
 shown-clashes : (P : Setup) (L : Lawful P) (sheet above : List Line) (s : State) (I : Inv P (intention sheet) (history above) s) (w k : ℕ) → fits s w k ≡ true → (x : Clash) → Shown P s k x → Clashes P sheet k x

@@ -1,6 +1,6 @@
 -- What every call answers, and what it leaves. Assumes nothing.
 -- Every answer is a chain of checks in the order of the table of refusals, one check to a line.
-use mathlib.Core.Bool.{Bool, true, false, cond, not, _&&_, _||_}
+use mathlib.Core.Bool.{Bool, true, cond, not, _&&_, _||_}
 use mathlib.Core.List.{List, [], _∷_, _++_, map}
 use mathlib.Core.Path.{_≡_}
 use Prim.Native.Nat.{ℕ, _+_, _-_, _*_, _<_}
@@ -22,10 +22,10 @@ use Rattle.model.specs.declared.status.Status.the-variants.{Idle, Held, Parked
 use Rattle.model.specs.Finding.{any, exists}
 use Rattle.model.specs.Words.{Access, Intention, Setup, has, touches, worker, isJoint}
 use Rattle.model.specs.Book.{Verdict, decided}
-use Rattle.model.specs.Sheets.{Call, Accepted, Answer, Line, Outcome, Clash, Tally}
+use Rattle.model.specs.Sheets.{Call, Answer, Line, Outcome, Clash, Tally}
 use Rattle.model.specs.Sheets.Call.{append, assign, begin, park, resume, recall, finish, verdict, need, tally}
 use Rattle.model.specs.Sheets.Line.{line}
-use Rattle.model.specs.State.{Row, Order, Status, Worker, State, fresh, lastNumber, rowAt, workerAt, markAt, isEmpty, oldestOf, isOn, onNumber, isHeld, isParked, isHeldOn, withWorker, inStatus}
+use Rattle.model.specs.State.{Order, Worker, State, fresh, lastNumber, rowAt, workerAt, markAt, isEmpty, oldestOf, isOn, onNumber, isHeld, isParked, isHeldOn, withWorker, inStatus}
 
 -- an accepted answer leaves its own state, and a refusal leaves the state as it was
 abbrev pub kept : {A : Type 0} → Result A CallFault → State → (A → State) → State

@@ -10,7 +10,6 @@ use Rattle.std.specs.Iters.{counting}
 use Rattle.std.specs.declared.result.Result.{Result}
 use Rattle.std.specs.declared.result.Result.the-variants.{Ok, Err}
 use Rattle.std.specs.shelf.Lists.{countBy}
-use Rattle.terms.specs.Maps.{MapMeaning}
 use Rattle.model.specs.Faults.{CallFault}
 use Rattle.model.specs.Finding.{any}
 use Rattle.model.specs.Words.{Access, Intention, Setup, Shares}
@@ -165,9 +164,6 @@ openWorkers P sheet = countBy (isOpen (history sheet)) (counting 0 (P .map .part
 -- how many orders are queued
 abbrev pub queuedOrders : List Line → ℕ
 queuedOrders sheet = countBy (isQueued (history sheet)) (history sheet .assigned)
-
-abbrev pub Ended : List Line → ℕ → Type 0
-Ended sheet k = isFinished (history sheet) k ≡ true
 
 -- no accepted finish of k stands on the sheet
 abbrev pub Unended : List Line → ℕ → Type 0
