@@ -1,7 +1,7 @@
 -- The book's equation: a number is aborted exactly when a committed one past its snapshot conflicts with it.
 use mathlib.Core.Bool.{true, false, _&&_}
 use mathlib.Core.Logic.{inl, inr}
-use mathlib.Core.Path.{_≡_, sym, _∙_}
+use mathlib.Core.Path.{_≡_, refl, sym, _∙_}
 use Prim.Native.Nat.{ℕ, zero, suc, _≤_, _<_}
 use native.Mathlib.Omega.{arith}
 use lib.Dec.{ltb, leb}
@@ -10,7 +10,7 @@ use Rattle.terms.specs.Rules.{RuleMeaning}
 use Rattle.model.specs.Finding.{exists}
 use Rattle.model.specs.Words.{Intention}
 use Rattle.model.specs.Book.{conflicts, book, commits}
-use Rattle.model.proofs.Found.{exists-some, exists-from}
+use Rattle.model.proofs.Found.{exists-some, exists-from, exists-same}
 
 module _ (r : RuleMeaning) (it : ℕ → Intention) where
   -- a longer book says the same of a number
@@ -39,3 +39,16 @@ module _ (r : RuleMeaning) (it : ℕ → Intention) where
   book-committed (suc k) b e l h c d =
       let g = not-true _ (sym (cond-false (leb (suc k) k) _ _ (lt-leb (suc k) k (omega arith))) ∙ b) in
       both-ways _ g (exists-from _ (suc k) e h (and-from _ _ (lt-ltb _ _ l) (and-from _ _ (book-upto k e (omega arith) ∙ c) d)))
+
+-- the verdict of a number hangs on the intentions up to it alone
+module _ (r : RuleMeaning) (it it′ : ℕ → Intention) where
+  book-same : (k : ℕ) → ((j : ℕ) → j ≤ k → it j ≡ it′ j) → (j : ℕ) → book r it k j ≡ book r it′ k j
+  unfolding book
+  book-same zero h j = refl
+  book-same (suc k) h j =
+      let now = exists-same (λ e. ltb (it (suc k) .snapshot) e && (book r it k e && conflicts r (it e) (it (suc k)))) (λ e. ltb (it′ (suc k) .snapshot) e && (book r it′ k e && conflicts r (it′ e) (it′ (suc k)))) (suc k) (λ e l. rw (h (suc k) (omega arith), h e (omega arith), book-same k (λ i m. h i (omega arith)) e)) in
+      rw (book-same k (λ i m. h i (omega arith)) j, now)
+
+  pub commits-same : (k : ℕ) → ((j : ℕ) → j ≤ k → it j ≡ it′ j) → commits r it k ≡ commits r it′ k
+  unfolding commits
+  commits-same k h = book-same k h k

@@ -78,6 +78,11 @@ exists-from f (suc k) e l h =
       | inr q ↦ or-right (f k) (exists f k) (exists-from f k e (omega arith) h)
     ]
 
+pub exists-same : (f g : ℕ → Bool) (k : ℕ) → ((e : ℕ) → e < k → f e ≡ g e) → exists f k ≡ exists g k
+unfolding exists
+exists-same f g zero h = refl
+exists-same f g (suc k) h = rw (h k (omega arith), exists-same f g k (λ e l. h e (omega arith)))
+
 pub last-most : (f : ℕ → Bool) (k j : ℕ) → j < k → f j ≡ true → j ≤ last f k
 unfolding last
 last-most f zero j h e = omega arith

@@ -23,9 +23,10 @@ use Rattle.model.specs.Sheets.Line.{line}
 use Rattle.model.specs.Sheets.Call.{assign, begin, finish, verdict, need, tally}
 use Rattle.model.specs.State.{State, lastNumber, rowAt, workerAt, markAt, isEmpty, oldestOf, isOn}
 use Rattle.model.specs.Model.{nextNumber, nextWorker, beginAnswer, oldestAt, fits, verdictOf, Shown, stateOf, GivesLine, Sheet}
-use Rattle.model.specs.Law.{Clashes, Law, Certifier-stands}
+use Rattle.model.specs.Law.{Clashes, Law, Certifier-stands, Decided, Units-agree}
 use Rattle.model.proofs.Found.{passed, ok-same}
 use Rattle.model.proofs.Sharing.{has-known, has-shares}
+use Rattle.model.proofs.Booked.{commits-same}
 use Rattle.model.proofs.Invariant.{Inv}
 use Rattle.model.proofs.Oldest.{head-assigned, head-needs}
 use Rattle.model.proofs.Appending.{append-passed}
@@ -174,3 +175,13 @@ module _ (P : Setup) (L : Lawful P) (sheet : List Line) (sh : Sheet P sheet) whe
 
 pub certifier-stands : Certifier-stands
 certifier-stands P L sheet s (sh, _) = holds P L sheet sh
+
+-- what was decided is the book's
+decided-is : (P : Setup) → Lawful P → (sheet : List Line) → Sheet P sheet → (k : ℕ) (v : Verdict) → Decided sheet k v → v ≡ oneAtATime P sheet k
+decided-is P L sheet sh k v (above, w, j, outcome, stood, e) = sym e ∙ outcomes P L sheet sh above w k j outcome stood .1
+
+pub units-agree : Units-agree
+units-agree rule here there r h t one other sh sh′ k same v v′ d d′ =
+    decided-is (record { rule = rule; map = here }) (record { rule = r; map = h }) one sh k v d
+    ∙ ap decided (commits-same rule (intention one) (intention other) k same)
+    ∙ sym (decided-is (record { rule = rule; map = there }) (record { rule = r; map = t }) other sh′ k v′ d′)

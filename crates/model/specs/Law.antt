@@ -3,10 +3,11 @@ use mathlib.Core.Bool.{true, cond}
 use mathlib.Core.List.{List, _∷_}
 use mathlib.Core.Logic.{_⊎_}
 use mathlib.Core.Path.{_≡_}
-use Prim.Native.Nat.{ℕ, _+_, _<_}
+use Prim.Native.Nat.{ℕ, _+_, _≤_, _<_}
 use Rattle.std.specs.declared.result.Result.{Result}
 use Rattle.std.specs.declared.result.Result.the-variants.{Ok, Err}
-use Rattle.terms.specs.Rules.{clashes}
+use Rattle.terms.specs.Maps.{MapMeaning, LawfulMap}
+use Rattle.terms.specs.Rules.{RuleMeaning, LawfulRule, clashes}
 use Rattle.model.specs.Faults.{CallFault}
 use Rattle.model.specs.declared.fault.CallFault.the-variants.{NeedNotPosted}
 use Rattle.model.specs.declared.verdict.Outcome.the-variants.{Abort}
@@ -82,6 +83,19 @@ pub record Law (P : Setup) (sheet : List Line) : Type 0 where
 -- the theorem: for every rule and every map within their laws, every sheet that the calls give has the law
 abbrev pub Certifier-stands : Type 0
 Certifier-stands = (P : Setup) → Lawful P → (sheet : List Line) (s : State) → Leads P sheet s → Law P sheet
+
+-- an accepted finish on the sheet gave number k the verdict v
+abbrev pub Decided : List Line → ℕ → Verdict → Type 0
+Decided sheet k v = (above : List Line) × (w j : ℕ) × (outcome : Outcome) × Stood sheet (line (finish w k) (Ok (j, outcome)) ∷ above) × (verdictOf outcome ≡ v)
+
+-- two units with the same rule, whatever their maps and the order in which their workers ran, that were appended the same
+-- intentions up to k, and both finished k, gave it the same verdict
+abbrev pub Units-agree : Type 0
+Units-agree =
+    (rule : RuleMeaning) (here there : MapMeaning) → LawfulRule rule → LawfulMap here → LawfulMap there →
+    (one other : List Line) → Sheet (record { rule = rule; map = here }) one → Sheet (record { rule = rule; map = there }) other →
+    (k : ℕ) → ((j : ℕ) → j ≤ k → intention one j ≡ intention other j) →
+    (v v′ : Verdict) → Decided one k v → Decided other k v′ → v ≡ v′
 
 -- on every sheet that leads to the state s the line may stand next, it leads to t, and the law holds of the sheet with it
 abbrev pub Continues : Setup → State → Line → State → Type 0
