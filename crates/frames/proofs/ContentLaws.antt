@@ -18,7 +18,7 @@ use Rattle.terms.specs.declared.access.Access.{Access}
 use Rattle.frames.specs.declared.fault.LineFault.the-variants.{Empty}
 use Rattle.frames.specs.Hex.{Bytes}
 use Rattle.terms.specs.Accesses.{access}
-use Rattle.frames.specs.Contents.{Content, accessBytes, bytesOf, noLine, AccessesFit, FieldsFit, Writable}
+use Rattle.frames.specs.Contents.{Content, accessBytes, bytesOf, noLine, AccessesFit, Writable}
 use Rattle.frames.specs.Contents.Content.{append, assign, beginPark, resumeFinish, verdict, tally, setUpResidue, setUpListed}
 use Rattle.frames.specs.Reading.{pairAt, accessesIn, appendSized, saidIn, misfit, frameIn}
 

@@ -1,9 +1,9 @@
 -- The way from a line's characters to its bytes.
-use mathlib.Core.Bool.{Bool, true, false, cond}
-use mathlib.Core.List.{List, [], _∷_}
-use mathlib.Core.Logic.{_≢_, inl, inr}
-use mathlib.Core.Path.{_≡_, refl, sym, ap, _∙_}
-use Prim.Native.Nat.{ℕ, _+_, _-_, _*_, _/_, _%_, _<_, _≤_}
+use mathlib.Core.Bool.{false}
+use mathlib.Core.List.{List}
+use mathlib.Core.Logic.{inl, inr}
+use mathlib.Core.Path.{_≡_, sym, ap, _∙_}
+use Prim.Native.Nat.{ℕ, _+_, _-_, _/_, _%_, _<_, _≤_}
 use native.Mathlib.Omega.{arith}
 use lib.Dec.{eqb, ltb}
 use lib.ListN.{length, getD, set, take}
@@ -12,11 +12,10 @@ use Rattle.std.proofs.shelf.Tests.{cases-eq, cond-false, ne-eqb}
 use Rattle.std.specs.Options.{okOr}
 use Rattle.std.specs.shelf.Lists.{leading}
 use Rattle.std.specs.declared.option.Option.{Option}
-use Rattle.std.specs.declared.option.Option.the-variants.{None}
-use Rattle.std.specs.declared.result.Result.the-variants.{Ok, Err}
+use Rattle.std.specs.declared.result.Result.the-variants.{Err}
 use Rattle.frames.specs.Contents.{Content}
 use Rattle.frames.specs.Hex.{isDigit, bytesIn}
-use Rattle.frames.specs.Reading.{Decoded, saidIn, misfit, frameIn, readAnswer}
+use Rattle.frames.specs.Reading.{Decoded, misfit, frameIn, readAnswer}
 use Rattle.frames.proofs.HexLaws.{length-bytesIn}
 use Rattle.frames.proofs.ContentLaws.{longer-than-any}
 

@@ -6,17 +6,14 @@ use native.Mathlib.Omega.{arith}
 use lib.ListN.{length, getD, take, drop}
 use Rattle.std.proofs.shelf.Lists.{length-push, length-take-le, take-more, take-all}
 use Rattle.std.proofs.shelf.Tests.{cond-true, cond-false, lt-ltb, le-ltb}
-use Rattle.std.specs.declared.option.Option.{Option}
 use Rattle.std.specs.declared.option.Option.the-variants.{None}
-use Rattle.std.specs.declared.result.Result.{Result}
 use Rattle.std.specs.declared.result.Result.the-variants.{Ok, Err}
 use Rattle.terms.specs.declared.access.Access.{Access}
-use Rattle.frames.specs.declared.fault.WriteFault.{WriteFault}
 use Rattle.frames.specs.declared.fault.WriteFault.the-variants.{ShortBuffer}
 use Rattle.frames.specs.Hex.{hexOf, Bytes}
 use Rattle.frames.specs.Contents.{Content, accessBytes, lineOf, noLine, AccessesFit}
 use Rattle.frames.specs.Contents.Content.{append, assign, beginPark, resumeFinish, verdict, tally, setUpResidue, setUpListed}
-use Rattle.frames.specs.Writing.{over, written, unless, writeAnswer}
+use Rattle.frames.specs.Writing.{over, written, writeAnswer}
 use Rattle.frames.proofs.HexLaws.{length-hexOf}
 use Rattle.frames.proofs.ContentLaws.{few-accesses, whole-table, length-accessBytes}
 use Rattle.frames.proofs.PutLaws.{hexOf-append, over-more}

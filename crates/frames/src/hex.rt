@@ -2,15 +2,15 @@
 ghost use mathlib.Core.Bool.{true};
 ghost use mathlib.Core.List.{[], _∷_, _++_};
 ghost use mathlib.Core.Path.{_≡_};
-ghost use Prim.Native.Nat.{ℕ, _+_, _*_, _%_, _<_, _≤_};
+ghost use Prim.Native.Nat.{_+_, _*_, _%_, _<_, _≤_};
 ghost use lib.Dec.{ltb};
-ghost use lib.ListN.{length, getD, take, drop};
+ghost use lib.ListN.{length, take, drop};
 ghost use Rattle.std.specs.shelf.Lists.{leading};
 ghost use Rattle.std.specs.declared.result.Result.the-variants.{Ok};
 ghost use Rattle.std.specs.Vec.{made};
 ghost use Rattle.terms.specs.Refusals.{refuse};
 ghost use Rattle.frames.specs.declared.fault.LineFault.the-variants.{NotHexadecimal};
-ghost use Rattle.frames.specs.Hex.{digitOf, isDigit, valueOf, hexOf, bytesIn};
+ghost use Rattle.frames.specs.Hex.{digitOf, isDigit, valueOf, hexOf};
 ghost use Rattle.frames.specs.Reading.{Decoded};
 ghost use Rattle.frames.specs.Writing.{over};
 use super::fault::LineFault;

@@ -1,13 +1,13 @@
 -- Words that are written piece by piece.
 use mathlib.Core.List.{List, [], _∷_, _++_}
-use mathlib.Core.Path.{_≡_, refl, sym, ap, _∙_}
+use mathlib.Core.Path.{_≡_, sym, ap, _∙_}
 use Prim.Native.Nat.{ℕ, _+_, _-_, _/_, _%_, _<_}
 use native.Mathlib.Omega.{arith}
 use lib.Chars.{codes}
 use lib.ListN.{length, getD, take, drop}
 use lib.Utf8.{encode}
 use Rattle.std.proofs.shelf.Ascii.{encode-ascii}
-use Rattle.std.proofs.shelf.Lists.{drop-more, joined-more, take-more, take-rest}
+use Rattle.std.proofs.shelf.Lists.{joined-more, take-more, take-rest}
 use Rattle.std.proofs.shelf.Ways.{tells}
 use Rattle.terms.specs.declared.access.Access.{Access}
 use Rattle.frames.specs.Hex.{digitOf, hexOf}

@@ -1,6 +1,6 @@
 // How many lines there were of each kind.
 ghost use mathlib.Core.Path.{_≡_};
-ghost use lib.ListN.{length, replicate};
+ghost use lib.ListN.{replicate};
 ghost use Rattle.wording.specs.Kinds.{countIn, counted};
 use super::kind::LineKind;
 

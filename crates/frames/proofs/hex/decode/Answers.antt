@@ -1,7 +1,7 @@
 use mathlib.Core.Path.{_≡_, sym}
 use Prim.Native.Nat.{_*_, _+_}
 use native.Mathlib.Omega.{arith}
-use lib.ListN.{length, getD}
+use lib.ListN.{length}
 use Rattle.std.proofs.shelf.Sums.{leading-drop-yes, leading-drop-no, leading-le-length}
 use Rattle.std.proofs.shelf.Ways.{tells}
 use Rattle.std.specs.shelf.Lists.{leading}

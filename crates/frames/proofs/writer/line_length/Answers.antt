@@ -1,7 +1,6 @@
 use native.Mathlib.Omega.{arith}
 use mathlib.Core.Path.{_≡_, sym, ap, _∙_}
 use lib.ListN.{length}
-use Rattle.std.specs.declared.option.Option.the-variants.{None}
 use Rattle.frames.specs.Contents.{Content, lineOf, noLine}
 use Rattle.frames.specs.Contents.Content.{append, setUpListed}
 use Rattle.frames.specs.Held.{contentOf}

@@ -1,4 +1,3 @@
-use borrow.Author.Needs.{needs}
 use mathlib.Core.Path.{subst}
 use Rattle.std.proofs.shelf.Lists.{take-all}
 use native.Mathlib.Omega.{arith}

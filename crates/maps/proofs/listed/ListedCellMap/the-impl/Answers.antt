@@ -1,9 +1,5 @@
 -- A cell's entry is among the good ones, since all 1,024 are.
-use mathlib.Core.Path.{_≡_}
-use mathlib.Core.Bool.{true}
 use native.Mathlib.Omega.{arith}
-use lib.ListN.{getD}
-use borrow.Author.Needs.{needs}
 use Rattle.std.proofs.shelf.Ways.{tells}
 use Rattle.terms.proofs.Leading.{leading-at}
 use Rattle.terms.specs.Numbers.{within}
