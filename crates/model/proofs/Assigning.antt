@@ -18,7 +18,7 @@ use Rattle.model.specs.Words.{Intention, Setup, Lawful, touches, worker, isJoi
 use Rattle.model.specs.Needs.{lastJoint, lastPlain, needOf}
 use Rattle.model.specs.Sheets.{History, entered, pairs}
 use Rattle.model.specs.Sheets.Event.{assigned}
-use Rattle.model.specs.State.{Order, Worker, State, noWorker, lastNumber, workerAt, isEmpty, oldestOf, isOn, onNumber}
+use Rattle.model.specs.State.{Order, Worker, State, noWorker, lastNumber, workerAt, isEmpty, oldestOf, isOn, onNumber, statusAt, postedAt, ordersAt}
 use Rattle.model.specs.Model.{nextNumber, nextIntention, nextWorker, assignAnswer, wanted, nextOrder, pushed, jointsAfter, plainsAfter, assignLeaves}
 use Rattle.model.proofs.Found.{at-set, passed, ok-same, put, put-both, put-keeps}
 use Rattle.model.proofs.Sharing.{worker-most}
@@ -30,7 +30,7 @@ use Rattle.model.proofs.Moving.{pairs-cons, seen, posted-same}
 pub assign-passed : (P : Setup) (s : State) (x : ℕ × ℕ) → Ok x ≡ assignAnswer P s → (s .assigned < lastNumber s) × (x ≡ (nextNumber s, nextWorker P s))
 assign-passed P s x e =
     let (c1, e1) = passed (leb (lastNumber s) (s .assigned)) (NoneUnassigned (lastNumber s)) _ x e in
-    let (_, e2) = passed (leb 16 (length (workerAt (s .workers) (nextWorker P s) .orders))) (WorkerFull (nextWorker P s)) _ x e1 in
+    let (_, e2) = passed (leb 16 (length (ordersAt s (nextWorker P s)))) (WorkerFull (nextWorker P s)) _ x e1 in
     (leb-false _ _ c1, ok-same x (nextNumber s, nextWorker P s) e2)
 
 push-some : (os : List Order) (o : Order) → isEmpty (os ++ o ∷ []) ≡ false
@@ -144,7 +144,7 @@ module _ (P : Setup) (L : Lawful P) (it : ℕ → Intention) (h : History) (s : 
       }
 
   -- ⟨ what the lines say ⟩
-  told-assigned : Told P it (nextNumber s) ((nextWorker P s, nextNumber s) ∷ h .assigned) (h .granted) (h .finished) (posts (workerAt (s .workers))) (λ u. isOn (workerAt (s .workers) u .status)) (λ u. onNumber (workerAt (s .workers) u .status))
+  told-assigned : Told P it (nextNumber s) ((nextWorker P s, nextNumber s) ∷ h .assigned) (h .granted) (h .finished) (postedAt s) (λ u. isOn (statusAt s u)) (λ u. onNumber (statusAt s u))
   told-assigned = record {
     done = I .told .done;
     undone = I .told .undone;
@@ -171,7 +171,7 @@ module _ (P : Setup) (L : Lawful P) (it : ℕ → Intention) (h : History) (s : 
       (subst (λ f. Told P it k asg (h .granted) (h .finished) (posts at) (λ u. isOn (at u .status)) f) (sym (put-keeps (λ (y : Worker). onNumber (y .status)) at w x refl)) told-assigned))
 
   -- ⟨ the counts ⟩
-  fin-none : Fin P it (posts (workerAt (s .workers))) (nextNumber s) → ⊥
+  fin-none : Fin P it (postedAt s) (nextNumber s) → ⊥
   fin-none f = omega (arith, fin-most P it h s I k f)
 
   undone : any (eqb (nextNumber s)) (h .finished) ≡ false

@@ -20,7 +20,7 @@ use Rattle.model.specs.Words.{Access, Intention, Setup, Lawful, isAt, has, Sha
 use Rattle.model.specs.Book.{commits, decided}
 use Rattle.model.specs.Sheets.{History, entered, pairs}
 use Rattle.model.specs.Sheets.Event.{finished}
-use Rattle.model.specs.State.{Row, Order, Status, Worker, State, noRow, noWorker, rowAt, workerAt, markAt, isEmpty, oldestOf, isOn, onNumber, isHeldOn}
+use Rattle.model.specs.State.{Row, Order, Status, Worker, State, noRow, noWorker, rowAt, workerAt, markAt, isEmpty, oldestOf, isOn, onNumber, isHeldOn, statusAt, postedAt, ordersAt, intentionAt}
 use Rattle.model.specs.Model.{fits, hitBy, hit, passes, marking, marksAfter, posting, finishLeaves}
 use Rattle.model.proofs.Found.{any-in, any-some, exists-some, exists-from, at-set, put, put-same, put-other, put-both}
 use Rattle.model.proofs.Sharing.{Known, is-at, at-itself, has-known, has-shares, conflict-some, conflict-from}
@@ -74,25 +74,25 @@ module _ (P : Setup) (L : Lawful P) (it : ℕ → Intention) (h : History) (s : 
   abbrev x : Worker
   x = posting k (workerAt (s .workers) w)
 
-  on : isOn (workerAt (s .workers) w .status) ≡ true
-  on = held-on k (workerAt (s .workers) w .status) held .0
+  on : isOn (statusAt s w) ≡ true
+  on = held-on k (statusAt s w) held .0
 
-  number : onNumber (workerAt (s .workers) w .status) ≡ k
-  number = held-on k (workerAt (s .workers) w .status) held .1
+  number : onNumber (statusAt s w) ≡ k
+  number = held-on k (statusAt s w) held .1
 
   low : w ≤ 15
   low = on-low P it h s I w on
 
-  some : isEmpty (workerAt (s .workers) w .orders) ≡ false
+  some : isEmpty (ordersAt s w) ≡ false
   some = I .staff .opens w on .some
 
-  oldest : oldestOf (workerAt (s .workers) w .orders) .number ≡ k
+  oldest : oldestOf (ordersAt s w) .number ≡ k
   oldest = I .staff .opens w on .oldest ∙ number
 
-  clear : Clear P it (posts (workerAt (s .workers))) k
+  clear : Clear P it (postedAt s) k
   clear = rw number at (I .staff .opens w on .clear)
 
-  late : workerAt (s .workers) w .posted < k
+  late : postedAt s w < k
   late = head-late P it h s I w k some oldest
 
   home : worker (P .map) (it k) ≡ w
@@ -104,17 +104,17 @@ module _ (P : Setup) (L : Lawful P) (it : ℕ → Intention) (h : History) (s : 
   pub own-there : k ≤ length (h .appended)
   own-there = omega (arith, head-assigned P it h s I w k some oldest, I .bound)
 
-  pub own-row : rowAt (s .rows) k .intention ≡ it k
+  pub own-row : intentionAt s k ≡ it k
   own-row = I .rows .same k own-positive own-there
 
   known : All (Known P) (it k .accesses)
   known = I .rows .known k own-positive own-there
 
-  unfinished : Fin P it (posts (workerAt (s .workers))) k → ⊥
-  unfinished f = let z : k ≤ workerAt (s .workers) w .posted = rw home at f in omega (arith, late)
+  unfinished : Fin P it (postedAt s) k → ⊥
+  unfinished f = let z : k ≤ postedAt s w = rw home at f in omega (arith, late)
 
   -- a finished number that shares a partition with k is below it
-  pub own-after : (j : ℕ) → Fin P it (posts (workerAt (s .workers))) j → Shares (P .map) (it k) (it j) → j < k
+  pub own-after : (j : ℕ) → Fin P it (postedAt s) j → Shares (P .map) (it k) (it j) → j < k
   own-after j f sh =
       elim (cases-lt k j) [
         | inl l ↦ absurd (unfinished (I .staff .clear j f k l sh))
@@ -167,13 +167,13 @@ module _ (P : Setup) (L : Lawful P) (it : ℕ → Intention) (h : History) (s : 
   abbrev after : ℕ → ℕ
   after = posts (put (workerAt (s .workers)) w (posting k (workerAt (s .workers) w)))
 
-  fin-up : (j : ℕ) → Fin P it (posts (workerAt (s .workers))) j → Fin P it (posts (put (workerAt (s .workers)) w (posting k (workerAt (s .workers) w)))) j
+  fin-up : (j : ℕ) → Fin P it (postedAt s) j → Fin P it (posts (put (workerAt (s .workers)) w (posting k (workerAt (s .workers) w)))) j
   fin-up j f = put-both at w x (worker (P .map) (it j)) (λ y. j ≤ y .posted) (λ e. let g : j ≤ at w .posted = rw e at f in omega (arith, late)) (λ _. f)
 
   fin-own : Fin P it (posts (put (workerAt (s .workers)) w (posting k (workerAt (s .workers) w)))) k
   fin-own = put-both at w x (worker (P .map) (it k)) (λ y. k ≤ y .posted) (λ e. omega arith) (λ e. absurd (e home))
 
-  fin-down : (j : ℕ) → Fin P it (posts (put (workerAt (s .workers)) w (posting k (workerAt (s .workers) w)))) j → (j ≡ k) ⊎ Fin P it (posts (workerAt (s .workers))) j
+  fin-down : (j : ℕ) → Fin P it (posts (put (workerAt (s .workers)) w (posting k (workerAt (s .workers) w)))) j → (j ≡ k) ⊎ Fin P it (postedAt s) j
   fin-down j f =
       elim (cases-eq (worker (P .map) (it j)) w) [
         | inl e ↦
@@ -197,11 +197,11 @@ module _ (P : Setup) (L : Lawful P) (it : ℕ → Intention) (h : History) (s : 
   -- ⟨ marks after it ⟩
   -- a mark is k's, which commits, or as it was
   mark-cases : (b : Bool) (c m : ℕ) → c ≤ 1023 → m < 4 →
-      ((b ≡ true) × (has (it k) c m ≡ true) × (markAt (cond b (marking k (rowAt (s .rows) k .intention .accesses) (s .marks)) (s .marks)) c m ≡ k))
-      ⊎ ((b ≡ true → has (it k) c m ≡ false) × (markAt (cond b (marking k (rowAt (s .rows) k .intention .accesses) (s .marks)) (s .marks)) c m ≡ markAt (s .marks) c m))
+      ((b ≡ true) × (has (it k) c m ≡ true) × (markAt (cond b (marking k (intentionAt s k .accesses) (s .marks)) (s .marks)) c m ≡ k))
+      ⊎ ((b ≡ true → has (it k) c m ≡ false) × (markAt (cond b (marking k (intentionAt s k .accesses) (s .marks)) (s .marks)) c m ≡ markAt (s .marks) c m))
   unfolding has
   mark-cases true c m hc hm =
-      let e : markAt (marking k (rowAt (s .rows) k .intention .accesses) (s .marks)) c m ≡ cond (any (isAt c m) (it k .accesses)) k (markAt (s .marks) c m) = rw own-row (marking-at P L k c m (it k .accesses) (s .marks) (I .marks .size) known hc hm) in
+      let e : markAt (marking k (intentionAt s k .accesses) (s .marks)) c m ≡ cond (any (isAt c m) (it k .accesses)) k (markAt (s .marks) c m) = rw own-row (marking-at P L k c m (it k .accesses) (s .marks) (I .marks .size) known hc hm) in
       elim (cases-bool (any (isAt c m) (it k .accesses))) [
         | inl t ↦ inl (refl, t, e ∙ cond-true _ _ _ t)
         | inr t ↦ inr ((λ _. t), e ∙ cond-false _ _ _ t)
@@ -232,9 +232,9 @@ module _ (P : Setup) (L : Lawful P) (it : ℕ → Intention) (h : History) (s : 
   }
 
   -- ⟨ rows, lines and counts after it ⟩
-  finish-rows : Rows P it (length (h .appended)) (k ∷ h .finished) (set (s .rows) (k - 1) (record { intention = rowAt (s .rows) k .intention; verdict = decided (passes P s k) }))
+  finish-rows : Rows P it (length (h .appended)) (k ∷ h .finished) (set (s .rows) (k - 1) (record { intention = intentionAt s k; verdict = decided (passes P s k) }))
   finish-rows =
-      let row : Row = record { intention = rowAt (s .rows) k .intention; verdict = decided (passes P s k) } in
+      let row : Row = record { intention = intentionAt s k; verdict = decided (passes P s k) } in
       let at-row : (j : ℕ) → 0 < j → (Q : Row → Type 0) → (j ≡ k → Q row) → ((j ≡ k → ⊥) → Q (rowAt (s .rows) j)) → Q (rowAt (set (s .rows) (k - 1) row) j) = λ j p Q here other. at-set (s .rows) (k - 1) row noRow (j - 1) Q (omega (arith, own-positive, own-there, I .rows .size)) (λ e. here (omega (arith, own-positive))) (λ e. other (λ g. e (omega arith))) in
       record {
         size = length-set _ _ _ ∙ I .rows .size;

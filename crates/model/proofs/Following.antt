@@ -24,7 +24,7 @@ use Rattle.model.specs.Sheets.Line.{line}
 use Rattle.model.specs.Sheets.Call.{append, assign, begin, park, resume, recall, finish, verdict, need, tally}
 use Rattle.model.specs.Sheets.Event.{assigned}
 use Rattle.model.specs.Sheets.{entered}
-use Rattle.model.specs.State.{Worker, Status, State, noWorker, noWorkers, noMarks, noNumbers, fresh, workerAt, isOn, onNumber, isHeld, isParked, withWorker, inStatus}
+use Rattle.model.specs.State.{Worker, Status, State, noWorker, noWorkers, noMarks, noNumbers, fresh, workerAt, isOn, onNumber, isHeld, isParked, withWorker, inStatus, statusAt}
 use Rattle.model.specs.Model.{kept, appendLeaves, assignLeaves, begun, fits, parkAnswer, resumeAnswer, recallAnswer, passes, finishAnswer, finishLeaves, verdictOf, Gives, after, callOf, stateOf, GivesLine, Sheet}
 use Rattle.model.proofs.Found.{last-none, passed, ok-same}
 use Rattle.model.proofs.Invariant.{Agrees, posts, Staff, Marks, ToldOf, Inv}
@@ -123,17 +123,17 @@ held-is-on Idle h = absurd (both-ways false refl h)
 held-is-on (Held k) h = refl
 held-is-on (Parked k) h = refl
 
-resume-passed : (P : Setup) (s : State) (w : ℕ) (x : ℕ × ℕ) → Ok x ≡ resumeAnswer P s w → (isOn (workerAt (s .workers) w .status) ≡ true) × (x .1 ≡ onNumber (workerAt (s .workers) w .status))
+resume-passed : (P : Setup) (s : State) (w : ℕ) (x : ℕ × ℕ) → Ok x ≡ resumeAnswer P s w → (isOn (statusAt s w) ≡ true) × (x .1 ≡ onNumber (statusAt s w))
 resume-passed P s w x e =
     let (_, e1) = passed (ltb (P .map .partitions) w) (UnknownWorker w) _ x e in
-    let (c, e2) = passed (not (isParked (workerAt (s .workers) w .status))) (NotParked w) _ x e1 in
-    (parked-on _ (not-false _ c), ap (λ (t : ℕ × ℕ). t .1) (ok-same x (w, onNumber (workerAt (s .workers) w .status)) e2))
+    let (c, e2) = passed (not (isParked (statusAt s w))) (NotParked w) _ x e1 in
+    (parked-on _ (not-false _ c), ap (λ (t : ℕ × ℕ). t .1) (ok-same x (w, onNumber (statusAt s w)) e2))
 
-recall-passed : (P : Setup) (s : State) (w k : ℕ) → Ok k ≡ recallAnswer P s w → (isOn (workerAt (s .workers) w .status) ≡ true) × (k ≡ onNumber (workerAt (s .workers) w .status))
+recall-passed : (P : Setup) (s : State) (w k : ℕ) → Ok k ≡ recallAnswer P s w → (isOn (statusAt s w) ≡ true) × (k ≡ onNumber (statusAt s w))
 recall-passed P s w k e =
     let (_, e1) = passed (ltb (P .map .partitions) w) (UnknownWorker w) _ k e in
-    let (c, e2) = passed (not (isHeld (workerAt (s .workers) w .status))) (NotHeld w) _ k e1 in
-    (held-is-on _ (not-false _ c), ok-same k (onNumber (workerAt (s .workers) w .status)) e2)
+    let (c, e2) = passed (not (isHeld (statusAt s w))) (NotHeld w) _ k e1 in
+    (held-is-on _ (not-false _ c), ok-same k (onNumber (statusAt s w)) e2)
 
 -- ⟨ every line ⟩
 
@@ -150,7 +150,7 @@ module _ (P : Setup) (L : Lawful P) (it : ℕ → Intention) where
       subst (λ r. Inv P it (history (line (begin w) (Ok x) ∷ above)) (kept r s (λ ticket. withWorker s w (begun (ticket .1) (workerAt (s .workers) w))))) g (keep-begin P it (history above) s I L w (x .1) (begin-passed P s w x g))
   keep above s (line (park w k) (Ok j)) I g agree =
       let (f, e) = park-passed s w k j g in
-      let (o, n) = held-on k (workerAt (s .workers) w .status) f in
+      let (o, n) = held-on k (statusAt s w) f in
       subst (λ r. Inv P it (history above) (kept r s (λ j. withWorker s w (inStatus (Parked j) (workerAt (s .workers) w))))) g (keep-move P it (history above) s I w (Parked j) o refl (e ∙ sym n))
   keep above s (line (resume w) (Ok x)) I g agree =
       let (o, e) = resume-passed P s w x g in

@@ -17,7 +17,7 @@ use Rattle.model.specs.Finding.{any, exists}
 use Rattle.model.specs.Words.{Intention, Setup, Lawful, worker}
 use Rattle.model.specs.Needs.{needOf}
 use Rattle.model.specs.Sheets.{Line, history, isFinished, isOpen, isQueued, pairs, intention, assigns, finishes, openWorkers, queuedOrders, Unended, HasOrder, Oldest, OpenOn, Idle, Blocked}
-use Rattle.model.specs.State.{Order, Worker, State, noWorker, workerAt, isEmpty, oldestOf, isOn, onNumber}
+use Rattle.model.specs.State.{Order, Worker, State, noWorker, workerAt, isEmpty, oldestOf, isOn, onNumber, statusAt, postedAt, ordersAt}
 use Rattle.model.specs.Model.{oldestAt, lacks, beginAnswer, queuedAt}
 use Rattle.model.proofs.Found.{any-some, exists-some}
 use Rattle.model.proofs.Sharing.{worker-most}
@@ -30,14 +30,14 @@ module _ (P : Setup) (it : ℕ → Intention) (above : List Line) (s : State) (I
   -- ⟨ orders ⟩
 
   -- a number whose worker has not posted it has no finish
-  pub unended : (j : ℕ) → workerAt (s .workers) (worker (P .map) (it j)) .posted < j → Unended above j
+  pub unended : (j : ℕ) → postedAt s (worker (P .map) (it j)) < j → Unended above j
   unended j l = elim (cases-bool (isFinished (history above) j)) [ inl t ↦ absurd (omega (arith, I .told .done j t .1)) | inr t ↦ t ]
 
   -- the first order that is stored is the oldest by the sheet
-  pub stored-oldest : (w : ℕ) → isEmpty (workerAt (s .workers) w .orders) ≡ false → Oldest above w (oldestOf (workerAt (s .workers) w .orders) .number)
+  pub stored-oldest : (w : ℕ) → isEmpty (ordersAt s w) ≡ false → Oldest above w (oldestOf (ordersAt s w) .number)
   stored-oldest w some =
-      let k = oldestOf (workerAt (s .workers) w .orders) .number in
-      let late : workerAt (s .workers) w .posted < k = head-late P it (history above) s I w k some refl in
+      let k = oldestOf (ordersAt s w) .number in
+      let late : postedAt s w < k = head-late P it (history above) s I w k some refl in
       let home = head-home P it (history above) s I w k some refl in (
         (
           subst (λ u. pairs u k (history above .assigned) ≡ true) home (I .told .had k (omega arith) (head-assigned P it (history above) s I w k some refl)),
@@ -47,18 +47,18 @@ module _ (P : Setup) (it : ℕ → Intention) (above : List Line) (s : State) (I
       )
 
   -- a worker with an order has one stored
-  pub some-stored : (w k : ℕ) → HasOrder above w k → isEmpty (workerAt (s .workers) w .orders) ≡ false
+  pub some-stored : (w k : ℕ) → HasOrder above w k → isEmpty (ordersAt s w) ≡ false
   some-stored w k (given, u) =
-      elim (cases-bool (isEmpty (workerAt (s .workers) w .orders))) [
+      elim (cases-bool (isEmpty (ordersAt s w))) [
         | inl t ↦ absurd (let (p, l, h) = I .told .has w k given in queue-none P it w _ _ _ t (I .staff .queues w) k (rw h at (I .told .undone k p u)) (omega arith) h)
         | inr t ↦ t
       ]
 
   -- the oldest order by the sheet is the first that is stored
-  pub oldest-stored : (w k : ℕ) → Oldest above w k → oldestOf (workerAt (s .workers) w .orders) .number ≡ k
+  pub oldest-stored : (w k : ℕ) → Oldest above w k → oldestOf (ordersAt s w) .number ≡ k
   oldest-stored w k (has, none) =
       let (has′, none′) = stored-oldest w (some-stored w k has) in
-      let n = oldestOf (workerAt (s .workers) w .orders) .number in
+      let n = oldestOf (ordersAt s w) .number in
       elim (cases-lt n k) [
         | inl l ↦ absurd (none n l has′)
         | inr l ↦ elim (cases-lt k n) [ inl g ↦ absurd (none′ k g has) | inr g ↦ omega arith ]
@@ -66,33 +66,33 @@ module _ (P : Setup) (it : ℕ → Intention) (above : List Line) (s : State) (I
 
   -- ⟨ open workers ⟩
 
-  pub on-open : (w : ℕ) → isOn (workerAt (s .workers) w .status) ≡ true → OpenOn above w (onNumber (workerAt (s .workers) w .status))
+  pub on-open : (w : ℕ) → isOn (statusAt s w) ≡ true → OpenOn above w (onNumber (statusAt s w))
   on-open w o =
       let O = I .staff .opens w o in
-      let k = onNumber (workerAt (s .workers) w .status) in
+      let k = onNumber (statusAt s w) in
       (I .told .begun w o, unended k (rw (head-home P it (history above) s I w k (O .some) (O .oldest)) (head-late P it (history above) s I w k (O .some) (O .oldest))))
 
-  pub open-on : (w k : ℕ) → OpenOn above w k → isOn (workerAt (s .workers) w .status) ≡ true
+  pub open-on : (w k : ℕ) → OpenOn above w k → isOn (statusAt s w) ≡ true
   open-on w k (given, u) =
       let (p, c) = I .told .began w k given in
       elim c [ inl f ↦ absurd (omega (arith, I .told .undone k p u)) | inr (o, _) ↦ o ]
 
-  pub on-known : Lawful P → (w : ℕ) → isOn (workerAt (s .workers) w .status) ≡ true → w ≤ P .map .partitions
+  pub on-known : Lawful P → (w : ℕ) → isOn (statusAt s w) ≡ true → w ≤ P .map .partitions
   on-known L w o =
       let O = I .staff .opens w o in
-      let h = head-home P it (history above) s I w (onNumber (workerAt (s .workers) w .status)) (O .some) (O .oldest) in
-      omega (arith, worker-most (P .map) (L .map) (it (onNumber (workerAt (s .workers) w .status))))
+      let h = head-home P it (history above) s I w (onNumber (statusAt s w)) (O .some) (O .oldest) in
+      omega (arith, worker-most (P .map) (L .map) (it (onNumber (statusAt s w))))
 
   -- ⟨ counts ⟩
 
-  isOpen-is : (w : ℕ) → isOpen (history above) w ≡ isOn (workerAt (s .workers) w .status)
+  isOpen-is : (w : ℕ) → isOpen (history above) w ≡ isOn (statusAt s w)
   isOpen-is w =
-      elim (cases-bool (isOn (workerAt (s .workers) w .status))) [
+      elim (cases-bool (isOn (statusAt s w))) [
         | inl o ↦
             let (given, u) = on-open w o in
             let (x, t, up) = any-some _ (history above .granted) given in
             let (a, b) = and-parts (eqb w (x .0)) _ t in
-            let n : x .1 ≡ onNumber (workerAt (s .workers) w .status) = sym (eqb-true _ (x .1) b) in
+            let n : x .1 ≡ onNumber (statusAt s w) = sym (eqb-true _ (x .1) b) in
             up (λ x. eqb w (x .0) && not (isFinished (history above) (x .1))) (and-from _ _ a (not-from-false _ (ap (isFinished (history above)) n ∙ u))) ∙ sym o
         | inr o ↦
             elim (cases-bool (isOpen (history above) w)) [
@@ -108,7 +108,7 @@ module _ (P : Setup) (it : ℕ → Intention) (above : List Line) (s : State) (I
   pub open-is : Lawful P → countBy (λ x. isOn (x .status)) (s .workers) ≡ openWorkers P above
   open-is L =
       let f : ℕ → ℕ = λ w. cond (isOpen (history above) w) 1 0 in
-      let g : ℕ → ℕ = λ w. cond (isOn (workerAt (s .workers) w .status)) 1 0 in
+      let g : ℕ → ℕ = λ w. cond (isOn (statusAt s w)) 1 0 in
       let idle : (w : ℕ) → P .map .partitions + 1 ≤ w → f w ≡ 0 = λ w l. elim (cases-bool (isOpen (history above) w)) [
         | inl t ↦ absurd (omega (arith, on-known L w (sym (isOpen-is w) ∙ t)))
         | inr t ↦ cond-false _ _ _ t
@@ -160,10 +160,10 @@ module _ (P : Setup) (L : Lawful P) (above : List Line) (s : State) (I : Inv P (
   abbrev it : ℕ → Intention
   it = intention above
 
-  some : isEmpty (workerAt (s .workers) w .orders) ≡ false
+  some : isEmpty (ordersAt s w) ≡ false
   some = some-stored P (intention above) above s I w k (old .0)
 
-  oldest : oldestOf (workerAt (s .workers) w .orders) .number ≡ k
+  oldest : oldestOf (ordersAt s w) .number ≡ k
   oldest = oldest-stored P (intention above) above s I w k old
 
   home : worker (P .map) (intention above k) ≡ w
@@ -189,7 +189,7 @@ module _ (P : Setup) (L : Lawful P) (above : List Line) (s : State) (I : Inv P (
 
   pub waits-or-granted : Idle above w → ((beginAnswer P s w ≡ Err (NeedNotPosted k)) × Blocked P above k) ⊎ ((beginAnswer P s w ≡ Ok (w, k)) × (Blocked P above k → ⊥))
   waits-or-granted idle =
-      let off : isOn (workerAt (s .workers) w .status) ≡ false = elim (cases-bool (isOn (workerAt (s .workers) w .status))) [ inl t ↦ absurd (idle _ (on-open P (intention above) above s I w t)) | inr t ↦ t ] in
+      let off : isOn (statusAt s w) ≡ false = elim (cases-bool (isOn (statusAt s w))) [ inl t ↦ absurd (idle _ (on-open P (intention above) above s I w t)) | inr t ↦ t ] in
       let checked : beginAnswer P s w ≡ cond (exists (lacks s (oldestAt s w)) (P .map .partitions + 1)) (Err (NeedNotPosted (oldestAt s w .number))) (Ok (w, oldestAt s w .number)) =
       cond-false _ _ _ (le-ltb (P .map .partitions) w known) ∙ cond-false _ _ _ off ∙ cond-false _ _ _ some in
       elim (cases-bool (exists (lacks s (oldestAt s w)) (P .map .partitions + 1))) [

@@ -18,7 +18,7 @@ use Rattle.model.specs.Finding.{any, exists}
 use Rattle.model.specs.Words.{Intention, Setup, Lawful, worker}
 use Rattle.model.specs.Sheets.{History, entered, pairs}
 use Rattle.model.specs.Sheets.Event.{granted}
-use Rattle.model.specs.State.{Status, Worker, State, noWorker, workerAt, isEmpty, oldestOf, isOn, onNumber, withWorker, inStatus}
+use Rattle.model.specs.State.{Status, Worker, State, noWorker, workerAt, isEmpty, oldestOf, isOn, onNumber, withWorker, inStatus, statusAt, postedAt, ordersAt}
 use Rattle.model.specs.Model.{oldestAt, lacks, beginAnswer, begun}
 use Rattle.model.proofs.Found.{exists-from, passed, ok-same, put, put-same, put-other, put-both, put-keeps, set-put}
 use Rattle.model.proofs.Counting.{sum-split}
@@ -32,16 +32,16 @@ pairs-cons w k u j xs = refl
 -- what a granted begin has shown
 pub record Granted (P : Setup) (s : State) (w k : ℕ) : Type 0 where
   pub known : w ≤ P .map .partitions
-  pub idle : isOn (workerAt (s .workers) w .status) ≡ false
-  pub some : isEmpty (workerAt (s .workers) w .orders) ≡ false
-  pub oldest : oldestOf (workerAt (s .workers) w .orders) .number ≡ k
-  pub ready : (v : ℕ) → v ≤ P .map .partitions → getD (oldestAt s w .needs) v 0 ≤ workerAt (s .workers) v .posted
+  pub idle : isOn (statusAt s w) ≡ false
+  pub some : isEmpty (ordersAt s w) ≡ false
+  pub oldest : oldestOf (ordersAt s w) .number ≡ k
+  pub ready : (v : ℕ) → v ≤ P .map .partitions → getD (oldestAt s w .needs) v 0 ≤ postedAt s v
 
 pub begin-passed : (P : Setup) (s : State) (w : ℕ) (ticket : ℕ × ℕ) → Ok ticket ≡ beginAnswer P s w → Granted P s w (ticket .1)
 begin-passed P s w ticket e =
     let (c1, e1) = passed (ltb (P .map .partitions) w) (UnknownWorker w) _ ticket e in
-    let (c2, e2) = passed (isOn (workerAt (s .workers) w .status)) (WorkerOpen (onNumber (workerAt (s .workers) w .status))) _ ticket e1 in
-    let (c3, e3) = passed (isEmpty (workerAt (s .workers) w .orders)) (NoOrder w) _ ticket e2 in
+    let (c2, e2) = passed (isOn (statusAt s w)) (WorkerOpen (onNumber (statusAt s w))) _ ticket e1 in
+    let (c3, e3) = passed (isEmpty (ordersAt s w)) (NoOrder w) _ ticket e2 in
     let (c4, e4) = passed (exists (lacks s (oldestAt s w)) (P .map .partitions + 1)) (NeedNotPosted (oldestAt s w .number)) _ ticket e3 in
     record {
       known = ltb-false _ _ c1;
@@ -59,14 +59,14 @@ module _ (P : Setup) (it : ℕ → Intention) (h : History) (s : State) (I : Inv
   pub seen : (w : ℕ) (x : Worker) → w ≤ 15 → workerAt (set (s .workers) w x) ≡ put (workerAt (s .workers)) w x
   seen w x l = set-put (s .workers) w x noWorker (omega (arith, I .sixteen))
 
-  pub posted-same : (w : ℕ) (x : Worker) → w ≤ 15 → x .posted ≡ workerAt (s .workers) w .posted → posts (workerAt (set (s .workers) w x)) ≡ posts (workerAt (s .workers))
+  pub posted-same : (w : ℕ) (x : Worker) → w ≤ 15 → x .posted ≡ postedAt s w → posts (workerAt (set (s .workers) w x)) ≡ posts (workerAt (s .workers))
   posted-same w x l e = ap posts (seen w x l) ∙ put-keeps (λ (y : Worker). y .posted) (workerAt (s .workers)) w x e
 
   -- an open worker is one of the sixteen
-  pub on-low : (w : ℕ) → isOn (workerAt (s .workers) w .status) ≡ true → w ≤ 15
+  pub on-low : (w : ℕ) → isOn (statusAt s w) ≡ true → w ≤ 15
   on-low w o =
       elim (cases-lt 15 w) [
-        | inl l ↦ absurd (both-ways (isOn (workerAt (s .workers) w .status)) (ap (λ (x : Worker). isOn (x .status)) (getD-past (s .workers) w noWorker (omega (arith, I .sixteen)))) o)
+        | inl l ↦ absurd (both-ways (isOn (statusAt s w)) (ap (λ (x : Worker). isOn (x .status)) (getD-past (s .workers) w noWorker (omega (arith, I .sixteen)))) o)
         | inr l ↦ l
       ]
 
@@ -75,7 +75,7 @@ module _ (P : Setup) (it : ℕ → Intention) (h : History) (s : State) (I : Inv
     low : w ≤ 15
     low = omega (arith, G .known, L .map .few)
 
-    clear : Clear P it (posts (workerAt (s .workers))) k
+    clear : Clear P it (postedAt s) k
     clear = head-clear P it h s I w k (G .some) (G .oldest) L (λ v l. omega (arith, G .ready v l, head-needs P it h s I w k (G .some) (G .oldest) v (omega (arith, L .map .few))))
 
     abbrev x : Worker
@@ -84,14 +84,14 @@ module _ (P : Setup) (it : ℕ → Intention) (h : History) (s : State) (I : Inv
     abbrev at : ℕ → Worker
     at = workerAt (s .workers)
 
-    late : workerAt (s .workers) w .posted < k
+    late : postedAt s w < k
     late = head-late P it h s I w k (G .some) (G .oldest)
 
     home : worker (P .map) (it k) ≡ w
     home = head-home P it h s I w k (G .some) (G .oldest)
 
-    unfinished : Fin P it (posts (workerAt (s .workers))) k → ⊥
-    unfinished f = let z : k ≤ workerAt (s .workers) w .posted = rw home at f in omega (arith, late)
+    unfinished : Fin P it (postedAt s) k → ⊥
+    unfinished f = let z : k ≤ postedAt s w = rw home at f in omega (arith, late)
 
     -- k was not granted before
     ungranted : pairs w k (h .granted) ≡ false
@@ -166,7 +166,7 @@ module _ (P : Setup) (it : ℕ → Intention) (h : History) (s : State) (I : Inv
           once = C .once;
           homes = C .homes;
           done = C .done;
-          opened = omega (arith, C .opened, one, sum-split _ _ _ (h .assigned) turns, sumBy-set (λ (x : Worker). cond (isOn (x .status)) 1 0) (s .workers) w x noWorker (omega (arith, I .sixteen, low)), cond-false {A = ℕ} (isOn (workerAt (s .workers) w .status)) 1 0 (G .idle));
+          opened = omega (arith, C .opened, one, sum-split _ _ _ (h .assigned) turns, sumBy-set (λ (x : Worker). cond (isOn (x .status)) 1 0) (s .workers) w x noWorker (omega (arith, I .sixteen, low)), cond-false {A = ℕ} (isOn (statusAt s w)) 1 0 (G .idle));
         }
 
     pub keep-begin : Inv P it (entered h (granted w k)) (withWorker s w (begun k (workerAt (s .workers) w)))
@@ -186,7 +186,7 @@ module _ (P : Setup) (it : ℕ → Intention) (h : History) (s : State) (I : Inv
 
   -- ⟨ park, resume, recall ⟩
   -- an open worker w stays open on its number
-  pub keep-move : (w : ℕ) (y : Status) → isOn (workerAt (s .workers) w .status) ≡ true → isOn y ≡ true → onNumber y ≡ onNumber (workerAt (s .workers) w .status) → Inv P it h (withWorker s w (inStatus y (workerAt (s .workers) w)))
+  pub keep-move : (w : ℕ) (y : Status) → isOn (statusAt s w) ≡ true → isOn y ≡ true → onNumber y ≡ onNumber (statusAt s w) → Inv P it h (withWorker s w (inStatus y (workerAt (s .workers) w)))
   keep-move w y o oy n =
       let at = workerAt (s .workers) in
       let x = inStatus y (workerAt (s .workers) w) in
@@ -222,6 +222,6 @@ module _ (P : Setup) (it : ℕ → Intention) (h : History) (s : State) (I : Inv
           once = I .counts .once;
           homes = I .counts .homes;
           done = I .counts .done;
-          opened = omega (arith, I .counts .opened, sumBy-set (λ (x : Worker). cond (isOn (x .status)) 1 0) (s .workers) w x noWorker b, cond-true {A = ℕ} (isOn (workerAt (s .workers) w .status)) 1 0 o, cond-true {A = ℕ} (isOn y) 1 0 oy);
+          opened = omega (arith, I .counts .opened, sumBy-set (λ (x : Worker). cond (isOn (x .status)) 1 0) (s .workers) w x noWorker b, cond-true {A = ℕ} (isOn (statusAt s w)) 1 0 o, cond-true {A = ℕ} (isOn y) 1 0 oy);
         };
       }

@@ -10,7 +10,7 @@ use Rattle.std.proofs.shelf.Tests.{both-ways, cases-lt, cases-eq}
 use Rattle.model.specs.Words.{Intention, Setup, Lawful, Shares, worker}
 use Rattle.model.specs.Needs.{needOf}
 use Rattle.model.specs.Sheets.{History}
-use Rattle.model.specs.State.{Order, Worker, State, workerAt, isEmpty, oldestOf}
+use Rattle.model.specs.State.{Order, Worker, State, workerAt, isEmpty, oldestOf, postedAt, ordersAt}
 use Rattle.model.proofs.Sharing.{worker-most}
 use Rattle.model.proofs.Needed.{need-most, need-is}
 use Rattle.model.proofs.Invariant.{posts, Fin, Clear, NoneBetween, RightNeeds, Queue, Inv}
@@ -45,39 +45,39 @@ module _ (P : Setup) (it : ℕ → Intention) (h : History) (s : State) (I : Inv
   at = workerAt (s .workers)
 
   -- a finished number was assigned
-  pub fin-most : (j : ℕ) → Fin P it (posts (workerAt (s .workers))) j → j ≤ s .assigned
+  pub fin-most : (j : ℕ) → Fin P it (postedAt s) j → j ≤ s .assigned
   fin-most j f = let q = queue-most P it (worker (P .map) (it j)) _ _ _ (I .staff .queues (worker (P .map) (it j))) in omega arith
 
-  module _ (w k : ℕ) (some : isEmpty (workerAt (s .workers) w .orders) ≡ false) (is : oldestOf (workerAt (s .workers) w .orders) .number ≡ k) where
-    head : (workerAt (s .workers) w .posted < k) × (worker (P .map) (it k) ≡ w) × NoneBetween P it w (workerAt (s .workers) w .posted) k × Queue P it w k (drop 1 (workerAt (s .workers) w .orders)) (s .assigned)
+  module _ (w k : ℕ) (some : isEmpty (ordersAt s w) ≡ false) (is : oldestOf (ordersAt s w) .number ≡ k) where
+    head : (postedAt s w < k) × (worker (P .map) (it k) ≡ w) × NoneBetween P it w (postedAt s w) k × Queue P it w k (drop 1 (ordersAt s w)) (s .assigned)
     head =
         let q = queue-head P it w _ _ _ some (I .staff .queues w) in
-        subst (λ n. (workerAt (s .workers) w .posted < n) × (worker (P .map) (it n) ≡ w) × NoneBetween P it w (workerAt (s .workers) w .posted) n × Queue P it w n (drop 1 (workerAt (s .workers) w .orders)) (s .assigned)) is (q .0, q .1, q .2, q .4)
+        subst (λ n. (postedAt s w < n) × (worker (P .map) (it n) ≡ w) × NoneBetween P it w (postedAt s w) n × Queue P it w n (drop 1 (ordersAt s w)) (s .assigned)) is (q .0, q .1, q .2, q .4)
 
-    pub head-late : workerAt (s .workers) w .posted < k
+    pub head-late : postedAt s w < k
     head-late = head .0
 
     pub head-home : worker (P .map) (it k) ≡ w
     head-home = head .1
 
-    pub head-rest : Queue P it w k (drop 1 (workerAt (s .workers) w .orders)) (s .assigned)
+    pub head-rest : Queue P it w k (drop 1 (ordersAt s w)) (s .assigned)
     head-rest = head .3
 
     pub head-assigned : k ≤ s .assigned
     head-assigned = queue-most P it w k _ _ head-rest
 
-    pub head-needs : (v : ℕ) → v ≤ 15 → getD (oldestOf (workerAt (s .workers) w .orders) .needs) v 0 ≡ needOf (P .map) it k v
+    pub head-needs : (v : ℕ) → v ≤ 15 → getD (oldestOf (ordersAt s w) .needs) v 0 ≡ needOf (P .map) it k v
     head-needs v l = queue-head P it w _ _ _ some (I .staff .queues w) .3 v l ∙ ap (λ n. needOf (P .map) it n v) is
 
-    pub head-none : NoneBetween P it w (workerAt (s .workers) w .posted) k
+    pub head-none : NoneBetween P it w (postedAt s w) k
     head-none = head .2
 
     -- a worker's earlier numbers are finished
-    pub head-first : (j : ℕ) → j < k → worker (P .map) (it j) ≡ w → Fin P it (posts (workerAt (s .workers))) j
-    head-first j l e = rw e (elim (cases-lt (workerAt (s .workers) w .posted) j) [ inl g ↦ absurd (head-none j g l e) | inr g ↦ g ])
+    pub head-first : (j : ℕ) → j < k → worker (P .map) (it j) ≡ w → Fin P it (postedAt s) j
+    head-first j l e = rw e (elim (cases-lt (postedAt s w) j) [ inl g ↦ absurd (head-none j g l e) | inr g ↦ g ])
 
     -- every need is posted: all earlier numbers that share a partition are finished
-    pub head-clear : Lawful P → ((v : ℕ) → v ≤ P .map .partitions → needOf (P .map) it k v ≤ workerAt (s .workers) v .posted) → Clear P it (posts (workerAt (s .workers))) k
+    pub head-clear : Lawful P → ((v : ℕ) → v ≤ P .map .partitions → needOf (P .map) it k v ≤ postedAt s v) → Clear P it (postedAt s) k
     head-clear L r i l sh =
         elim (cases-eq (worker (P .map) (it i)) w) [
           | inl e ↦ head-first i l e
@@ -87,7 +87,7 @@ module _ (P : Setup) (it : ℕ → Intention) (h : History) (s : State) (I : Inv
         ]
 
     -- a need is not posted: it is itself an earlier number that shares a partition and is not finished
-    pub head-blocked : (v : ℕ) → workerAt (s .workers) v .posted < needOf (P .map) it k v → (j : ℕ) × (j < k) × Shares (P .map) (it j) (it k) × (workerAt (s .workers) (worker (P .map) (it j)) .posted < j)
+    pub head-blocked : (v : ℕ) → postedAt s v < needOf (P .map) it k v → (j : ℕ) × (j < k) × Shares (P .map) (it j) (it k) × (postedAt s (worker (P .map) (it j)) < j)
     head-blocked v g =
         let r = need-is (P .map) it k v (omega arith) in
         (needOf (P .map) it k v, r .0, r .2, rw (r .1) g)

@@ -21,7 +21,7 @@ use Rattle.model.specs.Needs.{needOf}
 use Rattle.model.specs.Sheets.{Line, Outcome, Clash, Tally, Stood, history, isFinished, intention, oneAtATime, appends, assigns, finishes, openWorkers, queuedOrders, HasOrder, Oldest, OpenOn, Idle, Blocked}
 use Rattle.model.specs.Sheets.Line.{line}
 use Rattle.model.specs.Sheets.Call.{assign, begin, finish, verdict, need, tally}
-use Rattle.model.specs.State.{State, lastNumber, rowAt, workerAt, markAt, isEmpty, oldestOf, isOn}
+use Rattle.model.specs.State.{State, lastNumber, rowAt, workerAt, markAt, isEmpty, oldestOf, isOn, statusAt, ordersAt, intentionAt}
 use Rattle.model.specs.Model.{nextNumber, nextWorker, beginAnswer, oldestAt, fits, verdictOf, Shown, stateOf, GivesLine, Sheet}
 use Rattle.model.specs.Law.{Clashes, Law, Certifier-stands, Decided, Units-agree}
 use Rattle.model.proofs.Found.{passed, ok-same}
@@ -40,7 +40,7 @@ shown-clashes : (P : Setup) (L : Lawful P) (sheet above : List Line) (s : State)
 shown-clashes P L sheet above s I w k f x S =
     let it : ℕ → Intention = intention sheet in
     let h = history above in
-    let row : rowAt (s .rows) k .intention ≡ intention sheet k = own-row P L (intention sheet) (history above) s I w k f in
+    let row : intentionAt s k ≡ intention sheet k = own-row P L (intention sheet) (history above) s I w k f in
     let mine : has (intention sheet k) (x .cell) (S .later) ≡ true = subst (λ (y : Intention). has y (x .cell) (S .later) ≡ true) row (S .mine) in
     let (_, cell) = has-known P (intention sheet k) (x .cell) (S .later) (I .rows .known k (own-positive P L (intention sheet) (history above) s I w k f) (own-there P L (intention sheet) (history above) s I w k f)) mine in
     let M = I .marks .is (x .cell) (S .earlier) cell (omega (arith, S .known, L .rule .few)) (omega (arith, S .marked, S .past)) in
@@ -125,7 +125,7 @@ module _ (P : Setup) (L : Lawful P) (sheet : List Line) (sh : Sheet P sheet) whe
       let J = then above st in
       let old : Oldest above w k = (h, λ j l g. lowest j w l g) in
       let is = oldest-stored P (intention above) above (stateOf P above) J w k old in
-      elim (cases-bool (isOn (workerAt (s .workers) w .status))) [
+      elim (cases-bool (isOn (statusAt s w))) [
         | inl o ↦ inl (subst (OpenOn above w) (sym (J .staff .opens w o .oldest) ∙ is) (on-open P (intention above) above (stateOf P above) J w o))
         | inr o ↦ elim (waits-or-granted P L above (stateOf P above) J w k old (λ j p. both-ways _ o (open-on P (intention above) above (stateOf P above) J w j p))) [
           | inl (_, (j, l, (p, _, u), _)) ↦
@@ -150,9 +150,9 @@ module _ (P : Setup) (L : Lawful P) (sheet : List Line) (sh : Sheet P sheet) whe
       let J = I (line (need w v) (Ok n)) above st in
       let (c1, e1) = passed (ltb (P .map .partitions) w) (UnknownWorker w) _ n (given (line (need w v) (Ok n)) above st) in
       let (c2, e2) = passed (ltb (P .map .partitions) v) (UnknownWorker v) _ n e1 in
-      let (c3, e3) = passed (isEmpty (workerAt (s .workers) w .orders)) (NoOrder w) _ n e2 in
-      let k = oldestOf (workerAt (s .workers) w .orders) .number in (
-        oldestOf (workerAt (s .workers) w .orders) .number,
+      let (c3, e3) = passed (isEmpty (ordersAt s w)) (NoOrder w) _ n e2 in
+      let k = oldestOf (ordersAt s w) .number in (
+        oldestOf (ordersAt s w) .number,
         stored-oldest P (intention sheet) above (stateOf P above) J w c3,
         ok-same n (getD (oldestAt s w .needs) v 0) e3 ∙ head-needs P (intention sheet) (history above) (stateOf P above) J w k c3 refl v (omega (arith, ltb-false _ _ c2, L .map .few)),
       )

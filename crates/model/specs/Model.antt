@@ -25,7 +25,7 @@ use Rattle.model.specs.Book.{Verdict, decided}
 use Rattle.model.specs.Sheets.{Call, Answer, Line, Outcome, Clash, Tally}
 use Rattle.model.specs.Sheets.Call.{append, assign, begin, park, resume, recall, finish, verdict, need, tally}
 use Rattle.model.specs.Sheets.Line.{line}
-use Rattle.model.specs.State.{Order, Worker, State, fresh, lastNumber, rowAt, workerAt, markAt, isEmpty, oldestOf, isOn, onNumber, isHeld, isParked, isHeldOn, withWorker, inStatus}
+use Rattle.model.specs.State.{Order, Worker, State, fresh, lastNumber, rowAt, workerAt, markAt, isEmpty, oldestOf, isOn, onNumber, isHeld, isParked, isHeldOn, withWorker, inStatus, statusAt, postedAt, ordersAt, intentionAt}
 
 -- an accepted answer leaves its own state, and a refusal leaves the state as it was
 abbrev pub kept : {A : Type 0} → Result A CallFault → State → (A → State) → State
@@ -72,7 +72,7 @@ abbrev pub nextNumber : State → ℕ
 nextNumber s = s .assigned + 1
 
 abbrev pub nextIntention : State → Intention
-nextIntention s = rowAt (s .rows) (nextNumber s) .intention
+nextIntention s = intentionAt s (nextNumber s)
 
 abbrev pub nextWorker : Setup → State → ℕ
 nextWorker P s = worker (P .map) (nextIntention s)
@@ -80,7 +80,7 @@ nextWorker P s = worker (P .map) (nextIntention s)
 abbrev pub assignAnswer : Setup → State → Result (ℕ × ℕ) CallFault
 assignAnswer P s =
     refuse (leb (lastNumber s) (s .assigned)) (NoneUnassigned (lastNumber s))
-    (refuse (leb 16 (length (workerAt (s .workers) (nextWorker P s) .orders))) (WorkerFull (nextWorker P s))
+    (refuse (leb 16 (length (ordersAt s (nextWorker P s)))) (WorkerFull (nextWorker P s))
     (Ok (nextNumber s, nextWorker P s)))
 
 -- what the next order needs from worker v, by the last numbers that are stored
@@ -121,17 +121,17 @@ assignAfter P s = kept (assignAnswer P s) s (λ _. assignLeaves P s)
 -- ⟨ begin ⟩
 
 abbrev pub oldestAt : State → ℕ → Order
-oldestAt s w = oldestOf (workerAt (s .workers) w .orders)
+oldestAt s w = oldestOf (ordersAt s w)
 
 -- worker v has not posted what the order needs from it
 abbrev pub lacks : State → Order → ℕ → Bool
-lacks s o v = ltb (workerAt (s .workers) v .posted) (getD (o .needs) v 0)
+lacks s o v = ltb (postedAt s v) (getD (o .needs) v 0)
 
 abbrev pub beginAnswer : Setup → State → ℕ → Result (ℕ × ℕ) CallFault
 beginAnswer P s w =
     refuse (ltb (P .map .partitions) w) (UnknownWorker w)
-    (refuse (isOn (workerAt (s .workers) w .status)) (WorkerOpen (onNumber (workerAt (s .workers) w .status)))
-    (refuse (isEmpty (workerAt (s .workers) w .orders)) (NoOrder w)
+    (refuse (isOn (statusAt s w)) (WorkerOpen (onNumber (statusAt s w)))
+    (refuse (isEmpty (ordersAt s w)) (NoOrder w)
     (refuse (exists (lacks s (oldestAt s w)) (P .map .partitions + 1)) (NeedNotPosted (oldestAt s w .number))
     (Ok (w, oldestAt s w .number)))))
 
@@ -145,7 +145,7 @@ beginAfter P s w = kept (beginAnswer P s w) s (λ ticket. withWorker s w (begun 
 
 -- a ticket fits while its worker is held on its number
 abbrev pub fits : State → ℕ → ℕ → Bool
-fits s w k = isHeldOn k (workerAt (s .workers) w .status)
+fits s w k = isHeldOn k (statusAt s w)
 
 abbrev pub parkAnswer : State → ℕ → ℕ → Result ℕ CallFault
 parkAnswer s w k =
@@ -160,8 +160,8 @@ parkAfter s w k = kept (parkAnswer s w k) s (λ j. withWorker s w (inStatus (Par
 abbrev pub resumeAnswer : Setup → State → ℕ → Result (ℕ × ℕ) CallFault
 resumeAnswer P s w =
     refuse (ltb (P .map .partitions) w) (UnknownWorker w)
-    (refuse (not (isParked (workerAt (s .workers) w .status))) (NotParked w)
-    (Ok (w, onNumber (workerAt (s .workers) w .status))))
+    (refuse (not (isParked (statusAt s w))) (NotParked w)
+    (Ok (w, onNumber (statusAt s w))))
 
 abbrev pub resumeAfter : Setup → State → ℕ → State
 resumeAfter P s w = kept (resumeAnswer P s w) s (λ ticket. withWorker s w (inStatus (Held (ticket .1)) (workerAt (s .workers) w)))
@@ -171,8 +171,8 @@ resumeAfter P s w = kept (resumeAnswer P s w) s (λ ticket. withWorker s w (inSt
 abbrev pub recallAnswer : Setup → State → ℕ → Result ℕ CallFault
 recallAnswer P s w =
     refuse (ltb (P .map .partitions) w) (UnknownWorker w)
-    (refuse (not (isHeld (workerAt (s .workers) w .status))) (NotHeld w)
-    (Ok (onNumber (workerAt (s .workers) w .status))))
+    (refuse (not (isHeld (statusAt s w))) (NotHeld w)
+    (Ok (onNumber (statusAt s w))))
 
 abbrev pub recallAfter : Setup → State → ℕ → State
 recallAfter P s w = kept (recallAnswer P s w) s (λ k. withWorker s w (inStatus (Parked k) (workerAt (s .workers) w)))
@@ -188,7 +188,7 @@ hit r marks x = any (λ a. exists (hitBy r marks (x .snapshot) a) (r .modes)) (x
 
 -- whether number k commits by the marks that stand now: an intention that saw all before it needs no look
 abbrev pub passes : Setup → State → ℕ → Bool
-passes P s k = eqb (rowAt (s .rows) k .intention .snapshot + 1) k || not (hit (P .rule) (s .marks) (rowAt (s .rows) k .intention))
+passes P s k = eqb (intentionAt s k .snapshot + 1) k || not (hit (P .rule) (s .marks) (intentionAt s k))
 
 -- the answer but for the clash that an abort names
 abbrev pub finishAnswer : Setup → State → ℕ → ℕ → Result (ℕ × Verdict) CallFault
@@ -203,7 +203,7 @@ marking k (a ∷ rest) marks = marking k rest (set marks (4 * a .cell + a .mode)
 
 -- only a commit marks
 abbrev pub marksAfter : Setup → State → ℕ → List ℕ
-marksAfter P s k = cond (passes P s k) (marking k (rowAt (s .rows) k .intention .accesses) (s .marks)) (s .marks)
+marksAfter P s k = cond (passes P s k) (marking k (intentionAt s k .accesses) (s .marks)) (s .marks)
 
 -- the worker posts the number, drops the order and is idle
 abbrev pub posting : ℕ → Worker → Worker
@@ -211,7 +211,7 @@ posting k x = record { status = Idle; posted = k; orders = drop 1 (x .orders) }
 
 abbrev pub finishLeaves : Setup → State → ℕ → ℕ → State
 finishLeaves P s w k = record {
-  rows = set (s .rows) (k - 1) (record { intention = rowAt (s .rows) k .intention; verdict = decided (passes P s k) });
+  rows = set (s .rows) (k - 1) (record { intention = intentionAt s k; verdict = decided (passes P s k) });
   assigned = s .assigned;
   finished = s .finished + 1;
   workers = set (s .workers) w (posting k (workerAt (s .workers) w));
@@ -231,11 +231,11 @@ verdictOf (Abort clash) = Aborted
 pub record Shown (P : Setup) (s : State) (k : ℕ) (x : Clash) : Type 0 where
   pub earlier : ℕ
   pub later : ℕ
-  pub mine : has (rowAt (s .rows) k .intention) (x .cell) later ≡ true
+  pub mine : has (intentionAt s k) (x .cell) later ≡ true
   pub known : earlier < P .rule .modes
   pub clash : clashes (P .rule) earlier later ≡ true
   pub marked : x .number ≡ markAt (s .marks) (x .cell) earlier
-  pub past : rowAt (s .rows) k .intention .snapshot < x .number
+  pub past : intentionAt s k .snapshot < x .number
 
 -- an abort names a clash that the marks show; which one is free
 abbrev pub Names : Setup → State → ℕ → Result (ℕ × Outcome) CallFault → Type 0
@@ -259,7 +259,7 @@ abbrev pub needAnswer : Setup → State → ℕ → ℕ → Result ℕ CallFault
 needAnswer P s w v =
     refuse (ltb (P .map .partitions) w) (UnknownWorker w)
     (refuse (ltb (P .map .partitions) v) (UnknownWorker v)
-    (refuse (isEmpty (workerAt (s .workers) w .orders)) (NoOrder w)
+    (refuse (isEmpty (ordersAt s w)) (NoOrder w)
     (Ok (getD (oldestAt s w .needs) v 0))))
 
 -- ⟨ tally ⟩

@@ -76,6 +76,18 @@ rowAt rows k = getD rows (k - 1) noRow
 abbrev pub workerAt : List Worker → ℕ → Worker
 workerAt workers w = getD workers w noWorker
 
+abbrev pub intentionAt : State → ℕ → Intention
+intentionAt s k = rowAt (s .rows) k .intention
+
+abbrev pub statusAt : State → ℕ → Status
+statusAt s w = workerAt (s .workers) w .status
+
+abbrev pub postedAt : State → ℕ → ℕ
+postedAt s w = workerAt (s .workers) w .posted
+
+abbrev pub ordersAt : State → ℕ → List Order
+ordersAt s w = workerAt (s .workers) w .orders
+
 abbrev pub markAt : List ℕ → ℕ → ℕ → ℕ
 markAt marks cell mode = getD marks (4 * cell + mode) 0
 
