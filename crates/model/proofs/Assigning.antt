@@ -61,6 +61,9 @@ module _ (P : Setup) (L : Lawful P) (it : ℕ → Intention) (h : History) (s : 
   abbrev x : Worker
   x = pushed (nextOrder (P .map) s) (workerAt (s .workers) (nextWorker P s))
 
+  abbrev now : ℕ → Worker
+  now = put (workerAt (s .workers)) (nextWorker P s) (pushed (nextOrder (P .map) s) (workerAt (s .workers) (nextWorker P s)))
+
   next : s .assigned + 1 ≡ suc (s .assigned)
   next = omega arith
 
@@ -123,7 +126,7 @@ module _ (P : Setup) (L : Lawful P) (it : ℕ → Intention) (h : History) (s : 
   }
 
   -- ⟨ the workers ⟩
-  assign-staff : Staff P it (nextNumber s) (put (workerAt (s .workers)) (nextWorker P s) (pushed (nextOrder (P .map) s) (workerAt (s .workers) (nextWorker P s))))
+  assign-staff : Staff P it (nextNumber s) now
   assign-staff =
       let pk = put-keeps (λ (y : Worker). y .posted) at w x refl in
       let home-next : worker m (it (suc (s .assigned))) ≡ w = ap (λ n. worker m (it n)) (sym next) ∙ sym home in
@@ -163,7 +166,7 @@ module _ (P : Setup) (L : Lawful P) (it : ℕ → Intention) (h : History) (s : 
     ];
   }
 
-  assign-told : ToldOf P it (nextNumber s) ((nextWorker P s, nextNumber s) ∷ h .assigned) (h .granted) (h .finished) (put (workerAt (s .workers)) (nextWorker P s) (pushed (nextOrder (P .map) s) (workerAt (s .workers) (nextWorker P s))))
+  assign-told : ToldOf P it (nextNumber s) ((nextWorker P s, nextNumber s) ∷ h .assigned) (h .granted) (h .finished) now
   assign-told =
       let asg = (w, k) ∷ h .assigned in
       subst (λ f. Told P it k asg (h .granted) (h .finished) f (λ u. isOn (put at w x u .status)) (λ u. onNumber (put at w x u .status))) (sym (put-keeps (λ (y : Worker). y .posted) at w x refl))

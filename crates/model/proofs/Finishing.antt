@@ -164,16 +164,19 @@ module _ (P : Setup) (L : Lawful P) (it : ℕ → Intention) (h : History) (s : 
       ]
 
   -- ⟨ what is finished after it ⟩
-  abbrev after : ℕ → ℕ
-  after = posts (put (workerAt (s .workers)) w (posting k (workerAt (s .workers) w)))
+  abbrev now : ℕ → Worker
+  now = put (workerAt (s .workers)) w (posting k (workerAt (s .workers) w))
 
-  fin-up : (j : ℕ) → Fin P it (postedAt s) j → Fin P it (posts (put (workerAt (s .workers)) w (posting k (workerAt (s .workers) w)))) j
+  abbrev after : ℕ → ℕ
+  after = posts now
+
+  fin-up : (j : ℕ) → Fin P it (postedAt s) j → Fin P it after j
   fin-up j f = put-both at w x (worker (P .map) (it j)) (λ y. j ≤ y .posted) (λ e. let g : j ≤ at w .posted = rw e at f in omega (arith, late)) (λ _. f)
 
-  fin-own : Fin P it (posts (put (workerAt (s .workers)) w (posting k (workerAt (s .workers) w)))) k
+  fin-own : Fin P it after k
   fin-own = put-both at w x (worker (P .map) (it k)) (λ y. k ≤ y .posted) (λ e. omega arith) (λ e. absurd (e home))
 
-  fin-down : (j : ℕ) → Fin P it (posts (put (workerAt (s .workers)) w (posting k (workerAt (s .workers) w)))) j → (j ≡ k) ⊎ Fin P it (postedAt s) j
+  fin-down : (j : ℕ) → Fin P it after j → (j ≡ k) ⊎ Fin P it (postedAt s) j
   fin-down j f =
       elim (cases-eq (worker (P .map) (it j)) w) [
         | inl e ↦
@@ -182,7 +185,7 @@ module _ (P : Setup) (L : Lawful P) (it : ℕ → Intention) (h : History) (s : 
         | inr e ↦ inr (subst (λ (y : Worker). j ≤ y .posted) (put-other at w x (worker (P .map) (it j)) e) f)
       ]
 
-  finish-staff : Staff P it (s .assigned) (put (workerAt (s .workers)) w (posting k (workerAt (s .workers) w)))
+  finish-staff : Staff P it (s .assigned) now
   finish-staff = record {
     queues = λ u. put-both at w x u (λ y. Queue P it u (y .posted) (y .orders) (s .assigned)) (λ e. rw e (head-rest P it h s I w k some oldest)) (λ _. I .staff .queues u);
     opens = λ u. put-both at w x u (λ y. isOn (y .status) ≡ true → Opened P it after y)
@@ -208,7 +211,7 @@ module _ (P : Setup) (L : Lawful P) (it : ℕ → Intention) (h : History) (s : 
       ]
   mark-cases false c m hc hm = inr ((λ e. absurd (both-ways false refl e)), refl)
 
-  finish-marks : Marks P it (posts (put (workerAt (s .workers)) w (posting k (workerAt (s .workers) w)))) (marksAfter P s k)
+  finish-marks : Marks P it after (marksAfter P s k)
   finish-marks = record {
     size = cond-both (passes P s k) _ _ (λ (xs : List ℕ). length xs ≡ 4096) (λ _. marking-length k _ (s .marks) ∙ I .marks .size) (λ _. I .marks .size);
     is = λ c m hc hm p. elim (mark-cases (passes P s k) c m hc hm) [
@@ -245,7 +248,7 @@ module _ (P : Setup) (L : Lawful P) (it : ℕ → Intention) (h : History) (s : 
             (λ e. rw (any-cons j k (h .finished), ne-eqb j k e) (I .rows .verdict j p l));
       }
 
-  finish-told : ToldOf P it (s .assigned) (h .assigned) (h .granted) (k ∷ h .finished) (put (workerAt (s .workers)) w (posting k (workerAt (s .workers) w)))
+  finish-told : ToldOf P it (s .assigned) (h .assigned) (h .granted) (k ∷ h .finished) now
   finish-told = record {
     has = I .told .has;
     had = I .told .had;

@@ -84,6 +84,9 @@ module _ (P : Setup) (it : ℕ → Intention) (h : History) (s : State) (I : Inv
     abbrev at : ℕ → Worker
     at = workerAt (s .workers)
 
+    abbrev now : ℕ → Worker
+    now = put (workerAt (s .workers)) w (begun k (workerAt (s .workers) w))
+
     late : postedAt s w < k
     late = head-late P it h s I w k (G .some) (G .oldest)
 
@@ -103,7 +106,7 @@ module _ (P : Setup) (it : ℕ → Intention) (h : History) (s : State) (I : Inv
     undone : any (eqb k) (h .finished) ≡ false
     undone = elim (cases-bool (any (eqb k) (h .finished))) [ inl t ↦ absurd (unfinished (I .told .done k t .1)) | inr t ↦ t ]
 
-    begin-staff : Staff P it (s .assigned) (put (workerAt (s .workers)) w (begun k (workerAt (s .workers) w)))
+    begin-staff : Staff P it (s .assigned) now
     begin-staff =
         let pk = put-keeps (λ (y : Worker). y .posted) at w x refl in
         record {
@@ -115,7 +118,7 @@ module _ (P : Setup) (it : ℕ → Intention) (h : History) (s : State) (I : Inv
           clear = subst (λ f. (j : ℕ) → Fin P it f j → Clear P it f j) (sym pk) (I .staff .clear);
         }
 
-    begin-told : ToldOf P it (s .assigned) (h .assigned) ((w, k) ∷ h .granted) (h .finished) (put (workerAt (s .workers)) w (begun k (workerAt (s .workers) w)))
+    begin-told : ToldOf P it (s .assigned) (h .assigned) ((w, k) ∷ h .granted) (h .finished) now
     begin-told =
         subst (λ f. Told P it (s .assigned) (h .assigned) ((w, k) ∷ h .granted) (h .finished) f (λ u. isOn (put at w x u .status)) (λ u. onNumber (put at w x u .status)))
         (sym (put-keeps (λ (y : Worker). y .posted) at w x refl))

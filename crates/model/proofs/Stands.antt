@@ -38,8 +38,6 @@ use Rattle.model.proofs.Holding.{stored-oldest, some-stored, oldest-stored, on
 -- a clash that the marks show is one by the book
 shown-clashes : (P : Setup) (L : Lawful P) (sheet above : List Line) (s : State) (I : Inv P (intention sheet) (history above) s) (w k : ℕ) → fits s w k ≡ true → (x : Clash) → Shown P s k x → Clashes P sheet k x
 shown-clashes P L sheet above s I w k f x S =
-    let it : ℕ → Intention = intention sheet in
-    let h = history above in
     let row : intentionAt s k ≡ intention sheet k = own-row P L (intention sheet) (history above) s I w k f in
     let mine : has (intention sheet k) (x .cell) (S .later) ≡ true = subst (λ (y : Intention). has y (x .cell) (S .later) ≡ true) row (S .mine) in
     let (_, cell) = has-known P (intention sheet k) (x .cell) (S .later) (I .rows .known k (own-positive P L (intention sheet) (history above) s I w k f) (own-there P L (intention sheet) (history above) s I w k f)) mine in
@@ -77,7 +75,6 @@ module _ (P : Setup) (L : Lawful P) (sheet : List Line) (sh : Sheet P sheet) whe
 
   homes : (above : List Line) (k w : ℕ) → Stood sheet (line assign (Ok (k, w)) ∷ above) → (k ≡ assigns above + 1) × (w ≡ worker (P .map) (intention sheet k))
   homes above k w st =
-      let s = stateOf P above in
       let J = I (line assign (Ok (k, w))) above st in
       let (less, e) = assign-passed P (stateOf P above) (k, w) (given (line assign (Ok (k, w))) above st) in
       let ek : k ≡ nextNumber (stateOf P above) = ap (λ (x : ℕ × ℕ). x .0) e in
@@ -86,7 +83,6 @@ module _ (P : Setup) (L : Lawful P) (sheet : List Line) (sh : Sheet P sheet) whe
 
   outcomes : (above : List Line) (w k j : ℕ) (outcome : Outcome) → Stood sheet (line (finish w k) (Ok (j, outcome)) ∷ above) → (j ≡ k) × (verdictOf outcome ≡ oneAtATime P sheet k)
   outcomes above w k j outcome st =
-      let l = line (finish w k) (Ok (j, outcome)) in
       let (f, e) = finish-passed P (stateOf P above) w k (j, verdictOf outcome) (given (line (finish w k) (Ok (j, outcome))) above st .0) in
       (ap (λ (x : ℕ × Verdict). x .0) e, ap (λ (x : ℕ × Verdict). x .1) e ∙ ap decided (verdict-is P L (intention sheet) (history above) (stateOf P above) (I (line (finish w k) (Ok (j, outcome))) above st) w k f))
 
@@ -174,7 +170,7 @@ module _ (P : Setup) (L : Lawful P) (sheet : List Line) (sh : Sheet P sheet) whe
   }
 
 pub certifier-stands : Certifier-stands
-certifier-stands P L sheet s (sh, _) = holds P L sheet sh
+certifier-stands P L sheet sh = holds P L sheet sh
 
 -- what was decided is the book's
 decided-is : (P : Setup) → Lawful P → (sheet : List Line) → Sheet P sheet → (k : ℕ) (v : Verdict) → Decided sheet k v → v ≡ oneAtATime P sheet k

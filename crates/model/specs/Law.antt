@@ -33,7 +33,7 @@ pub record Clashes (P : Setup) (sheet : List Line) (k : ℕ) (x : Clash) : Type 
   pub before : x .number < k
   pub committed : commits (P .rule) (intention sheet) (x .number) ≡ true
 
--- Wherever a line stands on the sheet, `above` is what stood above it.
+-- P has the rule and the map. Wherever a line stands on the sheet, `above` is what stood above it.
 pub record Law (P : Setup) (sheet : List Line) : Type 0 where
   -- every answer, accepted or refused, is the one that the calls and the table give there
   pub answers : Sheet P sheet
@@ -82,7 +82,7 @@ pub record Law (P : Setup) (sheet : List Line) : Type 0 where
 
 -- the theorem: for every rule and every map within their laws, every sheet that the calls give has the law
 abbrev pub Certifier-stands : Type 0
-Certifier-stands = (P : Setup) → Lawful P → (sheet : List Line) (s : State) → Leads P sheet s → Law P sheet
+Certifier-stands = (P : Setup) → Lawful P → (sheet : List Line) → Sheet P sheet → Law P sheet
 
 -- an accepted finish on the sheet gave number k the verdict v
 abbrev pub Decided : List Line → ℕ → Verdict → Type 0
