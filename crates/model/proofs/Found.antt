@@ -1,7 +1,7 @@
 -- Tests over lists and numbers, places of a list after a write, and answers that are chains of checks.
 use mathlib.Core.Bool.{Bool, true, false, cond}
 use mathlib.Core.List.{List, [], _∷_}
-use mathlib.Core.Logic.{inl, inr}
+use mathlib.Core.Logic.{_⊎_, inl, inr}
 use mathlib.Core.Path.{_≡_, refl, sym, ap, subst, fun-ext, _∙_}
 use Prim.Native.Nat.{ℕ, zero, suc, _+_, _≤_, _<_}
 use native.Mathlib.Omega.{arith}
@@ -82,6 +82,18 @@ pub exists-same : (f g : ℕ → Bool) (k : ℕ) → ((e : ℕ) → e < k → f 
 unfolding exists
 exists-same f g zero h = refl
 exists-same f g (suc k) h = rw (h k (omega arith), exists-same f g k (λ e l. h e (omega arith)))
+
+-- among the numbers below k there is a lowest one that passes, or none passes
+pub least : (f : ℕ → Bool) (k : ℕ) → ((j : ℕ) × (j < k) × (f j ≡ true) × ((i : ℕ) → i < j → f i ≡ false)) ⊎ ((j : ℕ) → j < k → f j ≡ false)
+least f zero = inr (λ j l. absurd (omega arith))
+least f (suc k) =
+    elim (least f k) [
+      | inl (j, l, t, none) ↦ inl (j, omega arith, t, none)
+      | inr none ↦ elim (cases-bool (f k)) [
+        | inl t ↦ inl (k, omega arith, t, none)
+        | inr t ↦ inr (λ j l. elim (cases-eq j k) [ inl e ↦ ap f e ∙ t | inr e ↦ none j (omega arith) ])
+      ]
+    ]
 
 pub last-most : (f : ℕ → Bool) (k j : ℕ) → j < k → f j ≡ true → j ≤ last f k
 unfolding last

@@ -1,9 +1,9 @@
 -- What the invariant says in the words of the sheet: who has which order, who waits, who can go on, and what is counted.
-use mathlib.Core.Bool.{true, false, cond, not, _&&_}
+use mathlib.Core.Bool.{Bool, true, false, cond, not, _&&_}
 use mathlib.Core.List.{List, [], _∷_}
 use mathlib.Core.Logic.{_⊎_, inl, inr}
 use mathlib.Core.Path.{_≡_, refl, sym, ap, subst, _∙_}
-use Prim.Native.Nat.{ℕ, _+_, _-_, _≤_, _<_}
+use Prim.Native.Nat.{ℕ, suc, _+_, _-_, _≤_, _<_}
 use native.Mathlib.Omega.{arith}
 use lib.Dec.{eqb}
 use lib.ListN.{length, getD}
@@ -16,10 +16,10 @@ use Rattle.model.specs.declared.fault.CallFault.the-variants.{NeedNotPosted}
 use Rattle.model.specs.Finding.{any, exists}
 use Rattle.model.specs.Words.{Intention, Setup, Lawful, worker}
 use Rattle.model.specs.Needs.{needOf}
-use Rattle.model.specs.Sheets.{Line, history, isFinished, isOpen, isQueued, pairs, intention, assigns, finishes, openWorkers, queuedOrders, Unended, HasOrder, Oldest, OpenOn, Idle, Blocked}
+use Rattle.model.specs.Sheets.{Line, history, isFinished, isOpen, isQueued, pairs, intention, assigns, finishes, openWorkers, queuedOrders, Unended, HasOrder, Oldest, Lowest, OpenOn, Idle, Blocked}
 use Rattle.model.specs.State.{Order, Worker, State, noWorker, workerAt, isEmpty, oldestOf, isOn, onNumber, statusAt, postedAt, ordersAt}
 use Rattle.model.specs.Model.{oldestAt, lacks, beginAnswer, queuedAt}
-use Rattle.model.proofs.Found.{any-some, exists-some}
+use Rattle.model.proofs.Found.{any-some, exists-some, least}
 use Rattle.model.proofs.Sharing.{worker-most}
 use Rattle.model.proofs.Counting.{sum-split, sum-same, sum-ones, each, sum-places, sum-front}
 use Rattle.model.proofs.Invariant.{isOpenOrder, Inv}
@@ -62,6 +62,18 @@ module _ (P : Setup) (it : ℕ → Intention) (above : List Line) (s : State) (I
       elim (cases-lt n k) [
         | inl l ↦ absurd (none n l has′)
         | inr l ↦ elim (cases-lt k n) [ inl g ↦ absurd (none′ k g has) | inr g ↦ omega arith ]
+      ]
+
+  -- if there is an order, there is a lowest one
+  pub has-lowest : (u i : ℕ) → HasOrder above u i → (w k : ℕ) × Lowest above w k
+  has-lowest u i order =
+      let f : ℕ → Bool = λ j. pairs (worker (P .map) (it j)) j (history above .assigned) && not (isFinished (history above) j) in
+      let passes : (v j : ℕ) → HasOrder above v j → f j ≡ true = λ v j (given, open′). and-from _ _ (subst (λ v. pairs v j (history above .assigned) ≡ true) (sym (I .told .has v j given .2)) given) (not-from-false _ open′) in
+      elim (least f (suc i)) [
+        | inl (k, l, t, none) ↦
+            let (given, open′) = and-parts (pairs (worker (P .map) (it k)) k (history above .assigned)) _ t in
+            (worker (P .map) (it k), k, ((given, not-true _ open′), λ j v before h. both-ways (f j) (none j before) (passes v j h)))
+        | inr none ↦ absurd (both-ways (f i) (none i (omega arith)) (passes u i order))
       ]
 
   -- ⟨ open workers ⟩

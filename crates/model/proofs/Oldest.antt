@@ -13,7 +13,7 @@ use Rattle.model.specs.Sheets.{History}
 use Rattle.model.specs.State.{Order, Worker, State, workerAt, isEmpty, oldestOf, postedAt, ordersAt}
 use Rattle.model.proofs.Sharing.{worker-most}
 use Rattle.model.proofs.Needed.{need-most, need-is}
-use Rattle.model.proofs.Invariant.{posts, Fin, Clear, NoneBetween, RightNeeds, Queue, Inv}
+use Rattle.model.proofs.Invariant.{Fin, Clear, NoneBetween, RightNeeds, Queue, Inv}
 
 module _ (P : Setup) (it : ℕ → Intention) (w : ℕ) where
   pub queue-most : (low : ℕ) (os : List Order) (high : ℕ) → Queue P it w low os high → low ≤ high

@@ -3,7 +3,7 @@ use mathlib.Core.Bool.{true, cond, not}
 use mathlib.Core.List.{List, [], _∷_, _++_}
 use mathlib.Core.Logic.{_⊎_, inl, inr}
 use mathlib.Core.Path.{_≡_, refl, sym, ap, subst, _∙_}
-use Prim.Native.Nat.{ℕ, _+_, _<_}
+use Prim.Native.Nat.{ℕ, _+_}
 use native.Mathlib.Omega.{arith}
 use lib.Dec.{ltb, leb}
 use lib.ListN.{getD}
@@ -18,10 +18,10 @@ use Rattle.model.specs.declared.verdict.Verdict.the-variants.{Undecided}
 use Rattle.model.specs.Words.{Intention, Setup, Lawful, has, worker}
 use Rattle.model.specs.Book.{Verdict, commits, decided}
 use Rattle.model.specs.Needs.{needOf}
-use Rattle.model.specs.Sheets.{Line, Outcome, Clash, Tally, Stood, history, isFinished, intention, oneAtATime, appends, assigns, finishes, openWorkers, queuedOrders, HasOrder, Oldest, OpenOn, Idle, Blocked}
+use Rattle.model.specs.Sheets.{Line, Outcome, Clash, Tally, Stood, history, isFinished, intention, oneAtATime, appends, assigns, finishes, openWorkers, queuedOrders, HasOrder, Oldest, Lowest, OpenOn, Idle, Blocked}
 use Rattle.model.specs.Sheets.Line.{line}
 use Rattle.model.specs.Sheets.Call.{assign, begin, finish, verdict, need, tally}
-use Rattle.model.specs.State.{State, lastNumber, rowAt, workerAt, markAt, isEmpty, oldestOf, isOn, statusAt, ordersAt, intentionAt}
+use Rattle.model.specs.State.{State, lastNumber, rowAt, markAt, isEmpty, oldestOf, isOn, statusAt, ordersAt, intentionAt}
 use Rattle.model.specs.Model.{nextNumber, nextWorker, beginAnswer, oldestAt, fits, verdictOf, Shown, stateOf, GivesLine, Sheet}
 use Rattle.model.specs.Law.{Clashes, Law, Certifier-stands, Decided, Units-agree}
 use Rattle.model.proofs.Found.{passed, ok-same}
@@ -33,7 +33,7 @@ use Rattle.model.proofs.Appending.{append-passed}
 use Rattle.model.proofs.Assigning.{assign-passed}
 use Rattle.model.proofs.Finishing.{own-positive, own-there, own-row, own-after, verdict-is}
 use Rattle.model.proofs.Following.{finish-passed, sheet-then, inv-then, inv-now}
-use Rattle.model.proofs.Holding.{stored-oldest, some-stored, oldest-stored, on-open, open-on, open-is, queued-is, balanced, waits-or-granted}
+use Rattle.model.proofs.Holding.{has-lowest, stored-oldest, some-stored, oldest-stored, on-open, open-on, open-is, queued-is, balanced, waits-or-granted}
 
 -- a clash that the marks show is one by the book
 shown-clashes : (P : Setup) (L : Lawful P) (sheet above : List Line) (s : State) (I : Inv P (intention sheet) (history above) s) (w k : ℕ) → fits s w k ≡ true → (x : Clash) → Shown P s k x → Clashes P sheet k x
@@ -114,9 +114,8 @@ module _ (P : Setup) (L : Lawful P) (sheet : List Line) (sh : Sheet P sheet) whe
         | inr (e, b) ↦ inr (g ∙ e, b)
       ]
 
-  goes-on : (above : List Line) (w k : ℕ) → Stood sheet above → HasOrder above w k → ((j u : ℕ) → j < k → HasOrder above u j → ⊥) →
-      OpenOn above w k ⊎ Sheet P (line (begin w) (Ok (w, k)) ∷ above)
-  goes-on above w k st h lowest =
+  lowest-goes-on : (above : List Line) (w k : ℕ) → Stood sheet above → Lowest above w k → OpenOn above w k ⊎ Sheet P (line (begin w) (Ok (w, k)) ∷ above)
+  lowest-goes-on above w k st (h, lowest) =
       let s = stateOf P above in
       let J = then above st in
       let old : Oldest above w k = (h, λ j l g. lowest j w l g) in
@@ -130,6 +129,11 @@ module _ (P : Setup) (L : Lawful P) (sheet : List Line) (sh : Sheet P sheet) whe
           | inr (e, _) ↦ inr (sym e, sheet-then P L sheet sh above st)
         ]
       ]
+
+  goes-on : (above : List Line) (u i : ℕ) → Stood sheet above → HasOrder above u i → (w k : ℕ) × Lowest above w k × (OpenOn above w k ⊎ Sheet P (line (begin w) (Ok (w, k)) ∷ above))
+  goes-on above u i st order =
+      let (w, k, low) = has-lowest P (intention above) above (stateOf P above) (then above st) u i order in
+      (w, k, low, lowest-goes-on above w k st low)
 
   tallies : (above : List Line) (x : Tally) → Stood sheet (line tally (Ok x) ∷ above) →
       x ≡ record { appended = appends above; assigned = assigns above; finished = finishes above; «open» = openWorkers P above; queued = queuedOrders above }

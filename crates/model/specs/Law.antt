@@ -15,7 +15,7 @@ use Rattle.model.specs.declared.verdict.Verdict.the-variants.{Undecided}
 use Rattle.model.specs.Words.{Access, Setup, Lawful, has, worker}
 use Rattle.model.specs.Book.{Verdict, commits}
 use Rattle.model.specs.Needs.{needOf}
-use Rattle.model.specs.Sheets.{Line, Outcome, Clash, Tally, Stood, history, isFinished, intention, oneAtATime, appends, assigns, finishes, openWorkers, queuedOrders, HasOrder, Oldest, OpenOn, Idle, Blocked}
+use Rattle.model.specs.Sheets.{Line, Outcome, Clash, Tally, Stood, history, isFinished, intention, oneAtATime, appends, assigns, finishes, openWorkers, queuedOrders, HasOrder, Oldest, Lowest, OpenOn, Idle, Blocked}
 use Rattle.model.specs.Sheets.Line.{line}
 use Rattle.model.specs.Sheets.Call.{append, assign, begin, finish, verdict, need, tally}
 use Rattle.model.specs.State.{State}
@@ -65,10 +65,10 @@ pub record Law (P : Setup) (sheet : List Line) : Type 0 where
       (above : List Line) (w k : ℕ) (answer : Result (ℕ × ℕ) CallFault) →
       Stood sheet (line (begin w) answer ∷ above) → Idle above w → Oldest above w k →
       ((answer ≡ Err (NeedNotPosted k)) × Blocked P above k) ⊎ ((answer ≡ Ok (w, k)) × (Blocked P above k → ⊥))
-  -- somebody can always go on: the worker of the lowest order of all is open on it, or begin there is granted
+  -- somebody can always go on: if there is an order, the worker of the lowest one is open on it, or begin there is granted
   pub goes-on :
-      (above : List Line) (w k : ℕ) → Stood sheet above → HasOrder above w k → ((j u : ℕ) → j < k → HasOrder above u j → ⊥) →
-      OpenOn above w k ⊎ Sheet P (line (begin w) (Ok (w, k)) ∷ above)
+      (above : List Line) (u i : ℕ) → Stood sheet above → HasOrder above u i →
+      (w k : ℕ) × Lowest above w k × (OpenOn above w k ⊎ Sheet P (line (begin w) (Ok (w, k)) ∷ above))
   -- a tally counts the accepted lines above it, the open workers and the queued orders
   pub tallies :
       (above : List Line) (x : Tally) → Stood sheet (line tally (Ok x) ∷ above) →

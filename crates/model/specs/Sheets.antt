@@ -181,6 +181,10 @@ HasOrder sheet w k = (pairs w k (history sheet .assigned) ≡ true) × Unended s
 abbrev pub Oldest : List Line → ℕ → ℕ → Type 0
 Oldest sheet w k = HasOrder sheet w k × ((j : ℕ) → j < k → HasOrder sheet w j → ⊥)
 
+-- k is the lowest order of all, and worker w has it
+abbrev pub Lowest : List Line → ℕ → ℕ → Type 0
+Lowest sheet w k = HasOrder sheet w k × ((j u : ℕ) → j < k → HasOrder sheet u j → ⊥)
+
 abbrev pub OpenOn : List Line → ℕ → ℕ → Type 0
 OpenOn sheet w k = (pairs w k (history sheet .granted) ≡ true) × Unended sheet k
 
