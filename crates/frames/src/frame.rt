@@ -2,6 +2,8 @@
 ghost use mathlib.Core.Path.{_≡_};
 ghost use lib.ListN.{replicate};
 ghost use Rattle.terms.specs.Accesses.{access};
+use super::kinds::LONGEST_FRAME;
+use super::kinds::MOST_ACCESSES;
 use terms::Access;
 
 // A frame borrows its accesses or its table: from the caller who writes it, or from the room it was read into.
@@ -44,9 +46,8 @@ pub enum Frame<'a> {
 // Where the reader puts what a frame borrows, so that reading takes no heap. Nobody else sees what it holds.
 #[derive(Drop)]
 pub struct Room {
-    // The longest frame has 1,027 bytes.
-    pub(super) bytes: [u8; 1027],
-    pub(super) accesses: [Access; 8],
+    pub(super) bytes: [u8; LONGEST_FRAME],
+    pub(super) accesses: [Access; MOST_ACCESSES],
 }
 
 impl Room {
@@ -56,8 +57,8 @@ impl Room {
         ensures accesses { λ r. ⌜ r .accesses ≡ replicate 8 (access 0 0) ⌝ }
     {
         Room {
-            bytes: [0; 1027],
-            accesses: [Access { mode: 0, cell: 0 }; 8],
+            bytes: [0; LONGEST_FRAME],
+            accesses: [Access { mode: 0, cell: 0 }; MOST_ACCESSES],
         }
     }
 }

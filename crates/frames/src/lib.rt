@@ -2,6 +2,7 @@
 mod fault;
 mod frame;
 mod hex;
+mod kinds;
 mod lines;
 mod reader;
 mod writer;

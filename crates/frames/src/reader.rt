@@ -10,6 +10,16 @@ use super::fault::LineFault;
 use super::frame::Frame;
 use super::frame::Room;
 use super::hex::decode;
+use super::kinds::APPEND;
+use super::kinds::ASSIGN;
+use super::kinds::BEGIN_PARK;
+use super::kinds::LONGEST_FRAME;
+use super::kinds::MOST_ACCESSES;
+use super::kinds::RESUME_FINISH;
+use super::kinds::SET_UP_LISTED;
+use super::kinds::SET_UP_RESIDUE;
+use super::kinds::TALLY;
+use super::kinds::VERDICT;
 use terms::Access;
 
 // The frame that the characters of a line say; they end before the line feed.
@@ -23,7 +33,7 @@ pub fn read_line<'a>(line: &[u8], room: &'a mut Room) -> Result<Frame<'a>, LineF
     let Room { bytes, accesses } = room;
     decode(line, bytes)?;
     let len = line.len() / 2;
-    if len > 1027 {
+    if len > LONGEST_FRAME {
         return Err(misfit(bytes[0], len));
     }
     read_frame(&bytes[0..len], accesses)
@@ -38,19 +48,19 @@ fn read_frame<'a>(bytes: &'a [u8], accesses: &'a mut [Access; 8]) -> Result<Fram
         return Err(LineFault::Empty);
     }
     match bytes[0] {
-        1 => read_append(bytes, accesses),
-        2 if len == 1 => Ok(Frame::Assign),
-        3 if len == 2 => Ok(Frame::BeginPark { worker: bytes[1] }),
-        4 if len == 2 => Ok(Frame::ResumeFinish { worker: bytes[1] }),
-        5 if len == 3 => Ok(Frame::Verdict {
+        APPEND => read_append(bytes, accesses),
+        ASSIGN if len == 1 => Ok(Frame::Assign),
+        BEGIN_PARK if len == 2 => Ok(Frame::BeginPark { worker: bytes[1] }),
+        RESUME_FINISH if len == 2 => Ok(Frame::ResumeFinish { worker: bytes[1] }),
+        VERDICT if len == 3 => Ok(Frame::Verdict {
             number: pair(bytes[1], bytes[2]),
         }),
-        6 if len == 1 => Ok(Frame::Tally),
-        16 if len == 3 => Ok(Frame::SetUpResidue {
+        TALLY if len == 1 => Ok(Frame::Tally),
+        SET_UP_RESIDUE if len == 3 => Ok(Frame::SetUpResidue {
             rule: bytes[1],
             n: bytes[2],
         }),
-        17 if len == 1027 => Ok(Frame::SetUpListed {
+        SET_UP_LISTED if len == LONGEST_FRAME => Ok(Frame::SetUpListed {
             rule: bytes[1],
             n: bytes[2],
             table: &bytes[3..],
@@ -69,7 +79,7 @@ fn read_append<'a>(bytes: &'a [u8], accesses: &'a mut [Access; 8]) -> Result<Fra
         return Err(LineFault::WrongLength(len));
     }
     let count = bytes[3] as usize;
-    if count > 8 || len != 4 + 3 * count {
+    if count > MOST_ACCESSES || len != 4 + 3 * count {
         return Err(LineFault::WrongLength(len));
     }
     for i in 0..count {
@@ -89,7 +99,7 @@ fn misfit(kind: u8, len: usize) -> LineFault
     ensures { λ r. ⌜ r ≡ misfitOf kind len ⌝ }
 {
     match kind {
-        1..=6 | 16 | 17 => LineFault::WrongLength(len),
+        APPEND..=TALLY | SET_UP_RESIDUE | SET_UP_LISTED => LineFault::WrongLength(len),
         _ => LineFault::UnknownKind(kind),
     }
 }

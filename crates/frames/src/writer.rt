@@ -14,6 +14,16 @@ ghost use Rattle.frames.specs.Writing.{over, writeAnswer, bufferAfter};
 use super::fault::WriteFault;
 use super::frame::Frame;
 use super::hex::put;
+use super::kinds::APPEND;
+use super::kinds::ASSIGN;
+use super::kinds::BEGIN_PARK;
+use super::kinds::MOST_ACCESSES;
+use super::kinds::RESUME_FINISH;
+use super::kinds::SET_UP_LISTED;
+use super::kinds::SET_UP_RESIDUE;
+use super::kinds::TABLE_LENGTH;
+use super::kinds::TALLY;
+use super::kinds::VERDICT;
 use terms::Access;
 
 // Fills the start of the buffer with the frame's line and its line feed, and answers their length.
@@ -43,12 +53,12 @@ fn no_line(frame: Frame<'_>) -> Option<WriteFault>
         Frame::Append {
             snapshot: _,
             accesses,
-        } if accesses.len() > 8 => Some(WriteFault::TooManyAccesses(accesses.len())),
+        } if accesses.len() > MOST_ACCESSES => Some(WriteFault::TooManyAccesses(accesses.len())),
         Frame::SetUpListed {
             rule: _,
             n: _,
             table,
-        } if table.len() != 1024 => Some(WriteFault::TableLength(table.len())),
+        } if table.len() != TABLE_LENGTH => Some(WriteFault::TableLength(table.len())),
         _ => None,
     }
 }
@@ -88,12 +98,16 @@ fn put_frame(frame: Frame<'_>, out: &mut [u8]) -> usize
 {
     match frame {
         Frame::Append { snapshot, accesses } => put_append(snapshot, accesses, out),
-        Frame::Assign => put(out, 0, &[2]),
-        Frame::BeginPark { worker } => put(out, 0, &[3, worker]),
-        Frame::ResumeFinish { worker } => put(out, 0, &[4, worker]),
-        Frame::Verdict { number } => put(out, 0, &[5, (number / 256) as u8, (number % 256) as u8]),
-        Frame::Tally => put(out, 0, &[6]),
-        Frame::SetUpResidue { rule, n } => put(out, 0, &[16, rule, n]),
+        Frame::Assign => put(out, 0, &[ASSIGN]),
+        Frame::BeginPark { worker } => put(out, 0, &[BEGIN_PARK, worker]),
+        Frame::ResumeFinish { worker } => put(out, 0, &[RESUME_FINISH, worker]),
+        Frame::Verdict { number } => put(
+            out,
+            0,
+            &[VERDICT, (number / 256) as u8, (number % 256) as u8],
+        ),
+        Frame::Tally => put(out, 0, &[TALLY]),
+        Frame::SetUpResidue { rule, n } => put(out, 0, &[SET_UP_RESIDUE, rule, n]),
         Frame::SetUpListed { rule, n, table } => put_listed(rule, n, table, out),
     }
 }
@@ -109,7 +123,12 @@ fn put_append(snapshot: u16, accesses: &[Access], out: &mut [u8]) -> usize
     let mut at = put(
         out,
         0,
-        &[1, (snapshot / 256) as u8, (snapshot % 256) as u8, count],
+        &[
+            APPEND,
+            (snapshot / 256) as u8,
+            (snapshot % 256) as u8,
+            count,
+        ],
     );
     for access in accesses {
         at = put_access(*access, out, at);
@@ -123,7 +142,7 @@ fn put_listed(rule: u8, n: u8, table: &[u8], out: &mut [u8]) -> usize
     ensures after { λ _. ⌜ now (out .exit) ≡ over (lineOf (setUpListed rule n (now (table .entry)))) (now (out .entry)) ⌝ }
     ensures fields { λ _. ⌜ FieldsFit (setUpListed rule n (now (table .entry))) ⌝ }
 {
-    let at = put(out, 0, &[17, rule, n]);
+    let at = put(out, 0, &[SET_UP_LISTED, rule, n]);
     put(out, at, table)
 }
 

@@ -16,8 +16,8 @@ use Rattle.frames.proofs.ReadLaws.{row-whole, by-bytes, too-long}
 use Rattle.frames.proofs.RoundTripLaws.{passed, answer-is-written}
 use Rattle.frames.proofs.reader.read_line.Needs as need
 
-pub returns-then-len-gt1027 : need.returns-then-len-gt1027
-returns-then-len-gt1027 c =
+pub returns-then-len-gt-LONGEST-FRAME : need.returns-then-len-gt-LONGEST-FRAME
+returns-then-len-gt-LONGEST-FRAME c =
     let line = c .args .line .now in
     let decoded = c .in-Continue-decode .ensures tt in
     let bad = passed (ltb (leading isDigit line) (length line)) (NotHexadecimal (leading isDigit line)) (Ok tt) _ (sym (decoded .answer)) .0 in
