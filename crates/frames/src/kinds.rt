@@ -19,8 +19,5 @@ pub const SET_UP_LISTED: u8 = 0x11;
 // An append has at most this many accesses.
 pub const MOST_ACCESSES: usize = 8;
 
-// A listed map's table has exactly this many entries, one for each cell.
-pub const TABLE_LENGTH: usize = 1024;
-
-// The longest frame sets up a listed map: kind, rule, n and the table.
+// The longest frame sets up a listed map: kind, rule, n and an entry for each cell.
 pub const LONGEST_FRAME: usize = 1027;

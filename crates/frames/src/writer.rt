@@ -21,10 +21,10 @@ use super::kinds::MOST_ACCESSES;
 use super::kinds::RESUME_FINISH;
 use super::kinds::SET_UP_LISTED;
 use super::kinds::SET_UP_RESIDUE;
-use super::kinds::TABLE_LENGTH;
 use super::kinds::TALLY;
 use super::kinds::VERDICT;
 use terms::Access;
+use terms::CELLS;
 
 // Fills the start of the buffer with the frame's line and its line feed, and answers their length.
 pub fn write_line(frame: Frame<'_>, out: &mut [u8]) -> Result<usize, WriteFault>
@@ -58,7 +58,7 @@ fn no_line(frame: Frame<'_>) -> Option<WriteFault>
             rule: _,
             n: _,
             table,
-        } if table.len() != TABLE_LENGTH => Some(WriteFault::TableLength(table.len())),
+        } if table.len() != CELLS => Some(WriteFault::TableLength(table.len())),
         _ => None,
     }
 }

@@ -7,13 +7,15 @@ ghost use Rattle.std.specs.Results.{isOk};
 ghost use Rattle.maps.specs.Layouts.{listed, goodEntries, loadAnswer};
 use super::fault::MapFault;
 use super::map::CellMap;
+use terms::CELLS;
 use terms::LAST_CELL;
+use terms::MOST_PARTITIONS;
 
 // At any moment every entry is a partition from 1 to n, so a lookup tests none.
 #[derive(Drop)]
 pub struct ListedMap {
     n: u8,
-    table: [u8; 1024],
+    table: [u8; CELLS],
     ghost some: { 1 ≤ n },
     ghost few: { n ≤ 15 },
     ghost good: { goodEntries n table ≡ 1024 },
@@ -27,7 +29,7 @@ impl ListedMap {
     {
         ListedMap {
             n: 1,
-            table: [1; 1024],
+            table: [1; CELLS],
         }
     }
 
@@ -37,14 +39,14 @@ impl ListedMap {
         ensures n { λ r. ⌜ now (self .exit) .n ≡ cond (isOk r) n (now (self .entry) .n) ⌝ }
         ensures table { λ r. ⌜ now (self .exit) .table ≡ cond (isOk r) (now (table .entry)) (now (self .entry) .table) ⌝ }
     {
-        if n < 1 || n > 15 {
+        if n < 1 || n > MOST_PARTITIONS {
             return Err(MapFault::PartitionCount(n));
         }
-        if table.len() != 1024 {
+        if table.len() != CELLS {
             return Err(MapFault::TableLength(table.len()));
         }
         let good = good_entries(n, table);
-        if good < 1024 {
+        if good < CELLS {
             return Err(MapFault::Entry(good));
         }
         self.n = n;

@@ -6,6 +6,7 @@ ghost use Rattle.maps.specs.Layouts.{residues, makeAnswer};
 use super::fault::MapFault;
 use super::map::CellMap;
 use terms::LAST_CELL;
+use terms::MOST_PARTITIONS;
 
 #[derive(Clone, Copy)]
 pub struct ResidueMap {
@@ -19,7 +20,7 @@ impl ResidueMap {
     pub fn new(n: u8) -> Result<ResidueMap, MapFault>
         ensures { λ r. ⌜ okAs (λ m. m .n) r ≡ makeAnswer n ⌝ }
     {
-        if n < 1 || n > 15 {
+        if n < 1 || n > MOST_PARTITIONS {
             return Err(MapFault::PartitionCount(n));
         }
         Ok(ResidueMap { n })
