@@ -1,4 +1,13 @@
 // Reads a kept log on standard input and tells, line by line, what each line asks for or why it does not read.
+ghost use mathlib.Core.Path.{_≡_};
+ghost use Rattle.std.specs.Results.{isOk};
+ghost use Rattle.std.specs.Vec.{made};
+ghost use Rattle.terms.specs.Refusals.{okAs};
+ghost use Rattle.frames.specs.Held.{contentOf};
+ghost use Rattle.frames.specs.Reading.{readAnswer};
+ghost use Rattle.logview.specs.Summaries.{summary, summaryIn, withLine};
+use frames::Frame;
+use frames::LineFault;
 use frames::Room;
 use frames::first_line;
 use frames::read_line;
@@ -21,8 +30,35 @@ struct Seen {
     written_back: usize,
 }
 
+impl Seen {
+    // Counts a line that was read.
+    fn note(&mut self, line: &[u8], reading: Result<Frame<'_>, LineFault>)
+        requires { ⌜ okAs contentOf reading ≡ readAnswer (now line) ⌝ }
+        ensures { λ _. ⌜ summaryIn (now (self .exit)) ≡ withLine (summaryIn (now (self .entry))) (now (line .entry)) ⌝ }
+    {
+        self.lines = self.lines.saturating_add(1);
+        self.counts.note(LineKind::of(reading));
+        if is_written_back(line, reading) {
+            self.written_back = self.written_back.saturating_add(1);
+        }
+    }
+}
+
+// Whether the line reads, and what was read is written as that line again.
+fn is_written_back(line: &[u8], reading: Result<Frame<'_>, LineFault>) -> bool
+    requires { ⌜ okAs contentOf reading ≡ readAnswer (now line) ⌝ }
+    ensures { λ r. ⌜ r ≡ isOk (readAnswer (now (line .entry))) ⌝ }
+{
+    match reading {
+        Ok(frame) => is_line_of(frame, line),
+        Err(_) => false,
+    }
+}
+
 // Tells each line, and counts.
-fn tell_lines(rt: &impl Print, log: &[u8]) -> io::Result<Seen> {
+fn tell_lines(rt: &impl Print, log: &[u8]) -> io::Result<Seen>
+    ensures { λ r. ⌜ made r (λ s. summaryIn s ≡ summary (now (log .entry))) ⌝ }
+{
     let mut seen = Seen {
         lines: 0,
         counts: Counts::new(),
@@ -32,16 +68,10 @@ fn tell_lines(rt: &impl Print, log: &[u8]) -> io::Result<Seen> {
     let mut rest = log;
     while rest.len() > 0 {
         let (line, after) = first_line(rest);
-        seen.lines = seen.lines.saturating_add(1);
-        let number = seen.lines;
         let reading = read_line(line, &mut room);
+        seen.note(line, reading);
+        let number = seen.lines;
         rt.println(LineWords { number, reading })?;
-        if let Ok(frame) = reading {
-            if is_line_of(frame, line) {
-                seen.written_back = seen.written_back.saturating_add(1);
-            }
-        }
-        seen.counts.note(LineKind::of(reading));
         rest = after;
     }
     Ok(seen)

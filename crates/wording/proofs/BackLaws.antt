@@ -24,7 +24,7 @@ use Rattle.frames.specs.Reading.{readAnswer}
 use Rattle.frames.specs.Writing.{unless, written, writeAnswer}
 use Rattle.frames.proofs.RoundTripLaws.{read-is-written}
 use Rattle.frames.proofs.WriteLaws.{line-short}
-use Rattle.wording.specs.Said.{isLineOf}
+use Rattle.wording.specs.Back.{isLineOf}
 
 -- a line that reads as a frame is the frame's
 pub read-line-is : (f : Content) (line : List ℕ) → readAnswer line ≡ Ok f → isLineOf f line ≡ true

@@ -1,3 +1,4 @@
 pub mod Words
 pub mod Kinds
-pub mod Said
+pub mod Held
+pub mod Back

@@ -4,7 +4,7 @@ ghost use mathlib.Core.Path.{_≡_};
 ghost use Rattle.std.specs.declared.result.Result.the-variants.{Ok};
 ghost use Rattle.frames.specs.Held.{contentOf};
 ghost use Rattle.frames.specs.Reading.{readAnswer};
-ghost use Rattle.wording.specs.Said.{isLineOf};
+ghost use Rattle.wording.specs.Back.{isLineOf};
 use frames::Frame;
 use frames::write_line;
 

@@ -1,4 +1,4 @@
--- What the types of the code say. Assumes nothing.
+-- Whether a line is the one that a frame is written as. Assumes nothing.
 use mathlib.Core.Bool.{Bool, _&&_, not}
 use mathlib.Core.List.{List}
 use Prim.Native.Nat.{ℕ}
