@@ -1,0 +1,4 @@
+pub mod Records
+pub mod Tables
+pub mod Oldest
+pub mod Counts

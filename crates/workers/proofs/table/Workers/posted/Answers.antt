@@ -1,0 +1,8 @@
+use mathlib.Core.Path.{sym, ap}
+use native.Mathlib.Omega.{arith}
+use Rattle.model.specs.State.{Worker}
+use Rattle.workers.proofs.Tables.{at-plain}
+use Rattle.workers.proofs.table.Workers.posted.Needs as need
+
+pub returns : need.returns
+returns c = sym (ap (λ (x : Worker). x .posted) (at-plain (c .args .self .now) (c .args .w) (c .index .result .now) (omega arith) (c .pre) (c .index .ensures)))
