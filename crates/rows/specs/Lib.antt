@@ -1,0 +1,3 @@
+pub mod Known
+pub mod Lasts
+pub mod Views
