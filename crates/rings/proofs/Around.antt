@@ -1,10 +1,10 @@
 -- Laws of what goes round a row, all by places.
 use mathlib.Core.List.{List, [], _∷_, _++_}
-use mathlib.Core.Logic.{⊎-elim, _≢_}
+use mathlib.Core.Logic.{⊎-elim}
 use mathlib.Core.Path.{_≡_, refl, sym, ap, _∙_}
 use Prim.Native.Nat.{ℕ, _+_, _-_, _%_, _<_, _≤_}
 use native.Mathlib.Omega.{arith}
-use lib.ListN.{length, getD, take, drop, set, length-take, length-drop, length-append, length-set}
+use lib.ListN.{length, getD, drop, set, length-take, length-drop, length-append, length-set}
 use Rattle.std.proofs.shelf.Lists.{getD-take, getD-drop, getD-append-left, getD-append-right, getD-set-same, getD-set-other, length-push, getD-push, same-lists, nil-from-length}
 use Rattle.std.proofs.shelf.Tests.{cases-lt, cases-eq}
 use Rattle.rings.specs.Rings.{around}

@@ -1,6 +1,6 @@
 // What a joint order needs, and what it leaves as the last joint numbers.
 ghost use mathlib.Core.Path.{_≡_};
-ghost use Prim.Native.Nat.{ℕ, _<_};
+ghost use Prim.Native.Nat.{_<_};
 ghost use lib.ListN.{length};
 ghost use Rattle.rows.specs.Lasts.{jointNeed, jointNeeds, jointAt, jointsAfter};
 

@@ -1,7 +1,7 @@
 // Making, reading and deciding a row.
 ghost use mathlib.Core.Bool.{true};
 ghost use mathlib.Core.Path.{_≡_};
-ghost use Prim.Native.Nat.{ℕ, _≤_};
+ghost use Prim.Native.Nat.{_≤_};
 ghost use lib.ListN.{length};
 ghost use Rattle.model.specs.Book.{decided};
 ghost use Rattle.model.specs.Finding.{all};

@@ -1,8 +1,7 @@
 // Loops over accesses.
 ghost use mathlib.Core.Bool.{true};
 ghost use mathlib.Core.Path.{_≡_};
-ghost use Prim.Native.Nat.{ℕ, _≤_};
-ghost use lib.Dec.{ltb, leb};
+ghost use lib.Dec.{ltb};
 ghost use lib.ListN.{length};
 ghost use Rattle.std.specs.shelf.Lists.{leading};
 ghost use Rattle.model.specs.Finding.{all};

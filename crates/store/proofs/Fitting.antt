@@ -1,20 +1,20 @@
 -- What the stored workers keep to, kept by every change of one worker.
-use mathlib.Core.Bool.{Bool, true, false, cond, not, _&&_}
+use mathlib.Core.Bool.{Bool, true, false, cond}
 use mathlib.Core.List.{List, [], _∷_, _++_}
 use mathlib.Core.Logic.{inl, inr}
 use mathlib.Core.Path.{_≡_, refl, sym, ap, subst, _∙_}
 use Prim.Native.Nat.{ℕ, zero, suc, _+_, _-_, _<_, _≤_}
 use native.Mathlib.Omega.{arith}
 use lib.Dec.{eqb, leb}
-use lib.ListN.{length, getD, set, drop, length-drop}
+use lib.ListN.{length, set, drop}
 use Rattle.std.specs.declared.option.Option.{Option}
 use Rattle.std.specs.declared.option.Option.the-variants.{Some, None}
 use Rattle.std.specs.shelf.Lists.{sumBy}
-use Rattle.std.proofs.shelf.Lists.{getD-past, length-push}
+use Rattle.std.proofs.shelf.Lists.{getD-past}
 use Rattle.std.proofs.shelf.Sums.{sumBy-set}
-use Rattle.std.proofs.shelf.Tests.{both-ways, and-parts, and-from, leb-true, le-leb, eqb-true, eq-eqb, cases-lt, cases-bool, cond-true, cond-false, not-true}
+use Rattle.std.proofs.shelf.Tests.{both-ways, and-parts, and-from, leb-true, le-leb, eqb-true, cases-lt, cases-bool, cond-true, cond-false}
 use Rattle.model.specs.Finding.{all}
-use Rattle.model.specs.State.{Order, Worker, noWorker, workerAt, isEmpty, oldestOf, isHeldOn, inStatus}
+use Rattle.model.specs.State.{Order, Worker, noWorker, workerAt, isEmpty, isHeldOn, inStatus}
 use Rattle.model.specs.Model.{pushed, posting}
 use Rattle.model.specs.declared.status.Status.{Status}
 use Rattle.model.specs.declared.status.Status.the-variants.{Idle, Held, Parked}

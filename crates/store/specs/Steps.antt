@@ -6,7 +6,7 @@ use lib.ListN.{getD, set}
 use Rattle.std.specs.declared.option.Option.{Option}
 use Rattle.std.specs.declared.option.Option.the-variants.{Some, None}
 use Rattle.model.specs.Book.{decided}
-use Rattle.model.specs.State.{Order, State, rowAt, workerAt, withWorker, inStatus}
+use Rattle.model.specs.State.{State, rowAt, workerAt, withWorker, inStatus}
 use Rattle.model.specs.Model.{nextNumber, pushed, posting, marking}
 use Rattle.model.specs.declared.status.Status.{Status}
 use Rattle.rows.specs.Lasts.{jointNeeds, jointsAfter}

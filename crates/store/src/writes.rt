@@ -1,7 +1,7 @@
 // What is written of a store.
 ghost use mathlib.Core.Bool.{true, false};
 ghost use mathlib.Core.Path.{_≡_};
-ghost use Prim.Native.Nat.{ℕ, _<_, _≤_};
+ghost use Prim.Native.Nat.{_<_, _≤_};
 ghost use lib.ListN.{length};
 ghost use Rattle.model.specs.Finding.{all};
 ghost use Rattle.model.specs.State.{lastNumber, workerAt, isEmpty, isHeldOn};

@@ -1,12 +1,11 @@
 -- The oldest order of a worker, by its place in the row.
-use mathlib.Core.Bool.{Bool, true, false, cond}
+use mathlib.Core.Bool.{true, false, cond}
 use mathlib.Core.List.{List, [], _∷_, map}
-use mathlib.Core.Path.{_≡_, refl, sym, ap, subst, _∙_}
+use mathlib.Core.Path.{_≡_, sym, ap, _∙_}
 use Prim.Native.Nat.{ℕ, _-_, _<_}
 use native.Mathlib.Omega.{arith}
 use lib.Dec.{eqb}
-use lib.ListN.{length, getD, drop}
-use Rattle.std.specs.Iters.{counting}
+use lib.ListN.{getD, drop}
 use Rattle.std.proofs.shelf.Counted.{getD-map-counting}
 use Rattle.std.proofs.shelf.Lists.{getD-read-under}
 use Rattle.std.specs.Of.Vec.{vec-items, vec-len}
@@ -14,12 +13,11 @@ use Rattle.std.specs.Options.{Cases as BySome}
 use Rattle.std.specs.declared.option.Option.{Option}
 use Rattle.std.specs.declared.option.Option.the-variants.{Some, None}
 use Rattle.rings.specs.Rings.{held}
-use Rattle.model.specs.State.{Order, Worker, workerAt, isEmpty, oldestOf}
+use Rattle.model.specs.State.{Order, Worker, isEmpty, oldestOf}
 use Rattle.workers.specs.declared.orders.PlainOrder.{PlainOrder}
-use Rattle.workers.specs.declared.orders.JointOrder.{JointOrder}
 use Rattle.workers.specs.declared.record.WorkerRecord.{WorkerRecord}
 use Rattle.workers.specs.declared.table.Workers.{Workers}
-use Rattle.workers.specs.Views.{plainNeeds, plainOrder, jointOrder, workerOf, workersOf, ordersAt, IsOldest}
+use Rattle.workers.specs.Views.{plainNeeds, plainOrder, jointOrder, ordersAt, IsOldest}
 use Rattle.workers.proofs.Tables.{at-joint, at-plain}
 
 -- what a ring says of the place of its oldest entry

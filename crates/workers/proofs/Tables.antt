@@ -1,13 +1,12 @@
 -- The table of the workers, read and written at one worker.
-use mathlib.Core.Bool.{Bool, true, false, cond}
-use mathlib.Core.List.{List, [], _∷_, _++_, map}
-use mathlib.Core.Path.{_≡_, refl, sym, ap, subst, _∙_}
-use Prim.Native.Nat.{ℕ, zero, suc, _+_, _-_, _<_, _≤_}
+use mathlib.Core.List.{List, [], _∷_}
+use mathlib.Core.Path.{_≡_, refl, sym, ap, _∙_}
+use Prim.Native.Nat.{ℕ, zero, suc, _-_, _<_}
 use native.Mathlib.Omega.{arith}
 use lib.ListN.{length, getD, set}
 use Rattle.std.proofs.shelf.Lists.{length-map, getD-map, map-set}
-use Rattle.std.specs.Of.Vec.{vec-items, vec-len}
-use Rattle.model.specs.State.{Order, Worker, workerAt, noWorker}
+use Rattle.std.specs.Of.Vec.{vec-items}
+use Rattle.model.specs.State.{Worker, workerAt, noWorker}
 use Rattle.workers.specs.declared.orders.PlainOrder.{PlainOrder}
 use Rattle.workers.specs.declared.record.WorkerRecord.{WorkerRecord}
 use Rattle.workers.specs.declared.table.Workers.{Workers}

@@ -4,7 +4,7 @@ use Prim.Native.Nat.{ℕ}
 use lib.ListN.{getD, set, length-set}
 use Rattle.std.proofs.shelf.Counted.{fill-by-all}
 use Rattle.std.proofs.shelf.Edits.{fill-by-more}
-use Rattle.rows.specs.Lasts.{jointNeed, jointAt}
+use Rattle.rows.specs.Lasts.{jointNeed}
 use Rattle.rows.proofs.lasts.joint_needs.Needs as need
 
 pub loop-v-again : need.loop-v-again

@@ -4,7 +4,7 @@ use Prim.Native.Nat.{ℕ}
 use lib.ListN.{getD, set, length-set}
 use Rattle.std.proofs.shelf.Counted.{fill-by-all}
 use Rattle.std.proofs.shelf.Edits.{fill-by-more}
-use Rattle.rows.specs.Lasts.{jointNeed, jointAt}
+use Rattle.rows.specs.Lasts.{jointAt}
 use Rattle.rows.proofs.lasts.joints_after.Needs as need
 
 pub loop-p-again : need.loop-p-again

@@ -1,7 +1,7 @@
 use mathlib.Core.Path.{_≡_}
 use Prim.Native.Nat.{ℕ, _<_}
 use lib.ListN.{getD, length}
-use Rattle.rows.specs.Lasts.{jointNeed, jointAt}
+use Rattle.rows.specs.Lasts.{jointAt}
 use Rattle.rows.proofs.lasts.joints_after.Given as given
 
 abbrev pub Inv-loop-p : given.InvT-loop-p

@@ -1,5 +1,5 @@
 use native.Mathlib.Omega.{arith}
-use lib.Dec.{ltb, leb}
+use lib.Dec.{leb}
 use Rattle.std.proofs.shelf.Sums.{leading-drop-yes, leading-drop-no, leading-drop-all}
 use Rattle.std.proofs.shelf.Ways.{tells}
 use Rattle.terms.specs.declared.access.Access.{Access}

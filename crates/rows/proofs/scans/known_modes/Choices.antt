@@ -1,6 +1,6 @@
 use mathlib.Core.Path.{_≡_}
 use Prim.Native.Nat.{_+_}
-use lib.Dec.{ltb, leb}
+use lib.Dec.{ltb}
 use lib.ListN.{drop}
 use Rattle.std.specs.shelf.Lists.{leading}
 use Rattle.rows.proofs.scans.known_modes.Given as given

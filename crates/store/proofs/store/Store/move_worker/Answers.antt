@@ -1,7 +1,6 @@
-use mathlib.Core.Path.{_≡_, sym, ap, _∙_}
+use mathlib.Core.Path.{sym, ap, _∙_}
 use native.Mathlib.Omega.{arith}
 use Rattle.std.specs.Of.Vec.{vec-len}
-use Rattle.std.specs.declared.option.Option.the-variants.{Some}
 use Rattle.model.specs.State.{workerAt, inStatus}
 use Rattle.model.specs.declared.status.Status.{Status}
 use Rattle.workers.specs.Moves.{nextStatus}

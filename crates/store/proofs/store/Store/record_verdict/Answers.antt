@@ -1,11 +1,10 @@
 use mathlib.Core.List.{List}
-use mathlib.Core.Path.{_≡_, ap, _∙_}
+use mathlib.Core.Path.{ap, _∙_}
 use native.Mathlib.Omega.{arith}
 use Prim.Native.Nat.{_-_}
 use Rattle.std.specs.Of.Vec.{vec-items}
 use Rattle.model.specs.Book.{decided}
-use Rattle.model.specs.State.{Row, rowAt}
-use Rattle.rows.specs.Views.{rowOf}
+use Rattle.model.specs.State.{Row}
 use Rattle.store.specs.Views.{view}
 use Rattle.store.proofs.Reading.{row-count, row-read, row-write}
 use Rattle.store.proofs.store.Store.record_verdict.Needs as need

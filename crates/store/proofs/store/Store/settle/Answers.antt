@@ -1,15 +1,13 @@
 use mathlib.Core.Bool.{true}
-use mathlib.Core.Path.{_≡_, sym, ap, subst, _∙_}
+use mathlib.Core.Path.{_≡_, ap, _∙_}
 use native.Mathlib.Omega.{arith}
 use Prim.Native.Nat.{ℕ}
 use lib.ListN.{length}
 use Rattle.std.specs.Of.Vec.{vec-len}
-use Rattle.std.proofs.shelf.Lists.{length-set}
 use Rattle.model.specs.State.{State, workerAt, isEmpty, isHeldOn}
 use Rattle.workers.specs.Views.{workersOf}
 use Rattle.workers.proofs.Tables.{workers-length}
 use Rattle.store.specs.Steps.{withVerdict, closed}
-use Rattle.store.specs.Views.{view}
 use Rattle.store.specs.declared.store.Store.{Store}
 use Rattle.store.proofs.Fitting.{HeldOn, held-on}
 use Rattle.store.proofs.Reading.{row-count}

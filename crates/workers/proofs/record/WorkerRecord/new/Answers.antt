@@ -1,6 +1,5 @@
-use mathlib.Core.List.{List, map}
+use mathlib.Core.List.{map}
 use mathlib.Core.Path.{ap}
-use Rattle.model.specs.State.{Worker}
 use Rattle.model.specs.declared.status.Status.the-variants.{Idle}
 use Rattle.workers.proofs.Records.{held-none}
 use Rattle.workers.proofs.record.WorkerRecord.new.Needs as need

@@ -1,5 +1,4 @@
 use native.Mathlib.Omega.{arith}
-use Rattle.model.specs.State.{inStatus}
 use Rattle.model.specs.Model.{posting}
 use Rattle.workers.specs.Views.{plainOrder}
 use Rattle.workers.proofs.Tables.{wrote-plain}

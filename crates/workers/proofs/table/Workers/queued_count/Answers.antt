@@ -1,12 +1,9 @@
-use mathlib.Core.Bool.{cond}
-use mathlib.Core.Path.{_≡_, ap, _∙_}
+use mathlib.Core.Path.{ap, _∙_}
 use native.Mathlib.Omega.{arith}
-use Prim.Native.Nat.{ℕ}
-use lib.ListN.{take}
 use Rattle.std.specs.shelf.Lists.{sumBy}
 use Rattle.std.proofs.shelf.Lists.{take-all}
 use Rattle.std.proofs.shelf.Sums.{sumBy-more}
-use Rattle.model.specs.State.{Worker, noWorker, isOn}
+use Rattle.model.specs.State.{noWorker}
 use Rattle.model.specs.Model.{queuedAt}
 use Rattle.workers.specs.Views.{workersOf}
 use Rattle.workers.proofs.Tables.{workers-length}

@@ -1,9 +1,7 @@
-use mathlib.Core.Bool.{cond}
 use mathlib.Core.Path.{_≡_}
 use Prim.Native.Nat.{_*_, _≤_}
 use lib.ListN.{take}
 use Rattle.std.specs.shelf.Lists.{sumBy}
-use Rattle.model.specs.State.{isOn}
 use Rattle.model.specs.Model.{queuedAt}
 use Rattle.workers.specs.Views.{workersOf}
 use Rattle.workers.proofs.table.Workers.queued_count.Given as given

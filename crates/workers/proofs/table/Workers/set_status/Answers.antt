@@ -1,6 +1,5 @@
 use native.Mathlib.Omega.{arith}
 use Rattle.model.specs.State.{inStatus}
-use Rattle.model.specs.Model.{posting}
 use Rattle.workers.specs.Views.{plainOrder}
 use Rattle.workers.proofs.Tables.{wrote-plain}
 use Rattle.workers.proofs.table.Workers.set_status.Needs as need
