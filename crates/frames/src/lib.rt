@@ -1,4 +1,6 @@
 // Frames, kept as lines of hexadecimal: what they say, how a line is read and how one is written.
+#![tactic(auto)]
+
 mod fault;
 mod frame;
 mod hex;

@@ -1,4 +1,6 @@
 // Reads a kept log on standard input and tells, line by line, what each line asks for or why it does not read.
+#![tactic(auto)]
+
 ghost use Rattle.std.specs.Prelude.{◌≡◌, is_ok, IfOk};
 ghost use Rattle.terms.specs.Refusals.{ok_as};
 ghost use Rattle.frames.specs.Held.{content_of};

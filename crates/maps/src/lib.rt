@@ -1,4 +1,6 @@
 // Cell maps: which partition each setting's cell lies in.
+#![tactic(auto)]
+
 mod fault;
 mod listed;
 mod map;

@@ -1,5 +1,7 @@
 // What a certifier is proved against: the types that its answers are made of, what every call answers and leaves,
 // and the law that holds of every sheet of calls.
+#![tactic(auto)]
+
 ghost use Rattle.model.specs.Cases.{WorkedCases};
 ghost use Rattle.model.specs.Law.{CertifierStands, UnitsAgree};
 

@@ -1,4 +1,6 @@
 // A ring of at most 16 entries, of any type, in a row that is lent.
+#![tactic(auto)]
+
 mod places;
 mod ring;
 

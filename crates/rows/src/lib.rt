@@ -1,4 +1,6 @@
 // A row of the log, the loops over its accesses, and what the last assigned numbers say.
+#![tactic(auto)]
+
 mod lasts;
 mod logrow;
 mod rows;

@@ -1,4 +1,6 @@
 // Clash rules: whether a later access to a cell clashes with an earlier committed one.
+#![tactic(auto)]
+
 mod counting;
 mod first_committer;
 mod rule;

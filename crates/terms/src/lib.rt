@@ -1,4 +1,6 @@
 // The words that every layer shares: what an access is, and the numbers that modes, cells and partitions have.
+#![tactic(auto)]
+
 mod access;
 
 pub use access::{ADD, Access, CELLS, LAST_CELL, MOST_PARTITIONS, READ, WRITE};

@@ -1,4 +1,6 @@
 // The lines of a log in plain words, for a person who reads it.
+#![tactic(auto)]
+
 mod access;
 mod back;
 mod counts;

@@ -1,6 +1,8 @@
 // The sixteen workers: what each is doing, what it posted, and its orders.
 // Worker 0 takes joint orders, which need something from many workers; the others take plain ones, which need something
 // from worker 0 alone.
+#![tactic(auto)]
+
 mod moves;
 mod orders;
 mod reads;

@@ -30,11 +30,11 @@ loop-i-preserved c =
     let line = c.args.line.now in
     let i = c.loop-i.i in
     let (digits, sofar) = c.loop-i.invariant in
-    let more = digits_more line i (omega arith) (sym c.if-not-is-digit.ensures) (sym c.if-not-is-digit-2.ensures) in
+    let more = digits_more line i (omega arith) (sym c.if-not-is_digit.ensures) (sym c.if-not-is_digit-2.ensures) in
     let byte = get_or-bytes_in i line (omega arith) in (
       omega arith,
       elim c.if-i-bytes.branch [
-        | then-i-bytes w ↦ row_set (bytes_in line) c.loop-i.bytes c.if-i-bytes.bytes i _ sofar w.bytes-is (omega (arith, w.value-of.ensures.value, w.value-of-then-i-bytes.ensures.value))
+        | then-i-bytes w ↦ row_set (bytes_in line) c.loop-i.bytes c.if-i-bytes.bytes i _ sofar w.bytes-is (omega (arith, w.value_of.ensures.value, w.value-of-then-i-bytes.ensures.value))
         | else-i-bytes w ↦ row_full (bytes_in line) c.loop-i.bytes c.if-i-bytes.bytes i sofar w.bytes-is w.if-i-bytes.false
       ],
     )

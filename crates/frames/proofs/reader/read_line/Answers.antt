@@ -28,8 +28,8 @@ pub returns : goal.returns
 returns c =
     let line = c.args.line.now in
     let row = c.decode.new.bytes in
-    let decoded = c.in-ok-decode.ensures in
+    let decoded = c.in_ok-decode.ensures in
     let bad = (passed (ltb (prefix_len is_hex_digit line) (length line)) (NotHexadecimal (prefix_len is_hex_digit line)) (Ok tt) _ (sym decoded.answer)).0 in
     let same : take (length line / 2 - 0) row ≡ bytes_in line = row_whole line row (length line / 2 - 0) decoded.bytes (omega arith) (omega arith) in
-    let read : ok_as content_of c.read-frame.result ≡ read_answer line = c.read-frame.ensures ∙ (ap frame_in same ∙ sym (by_bytes line (ne_eqb _ _ c.if-line-eq1.false) bad)) in
+    let read : ok_as content_of c.read_frame.result ≡ read_answer line = c.read_frame.ensures ∙ (ap frame_in same ∙ sym (by_bytes line (ne_eqb _ _ c.if-line-eq1.false) bad)) in
     record { answer = read; written = answer_is_written _ line read }

@@ -11,10 +11,10 @@ put-access-at-requires c = omega (arith, length-append_line c.args.snapshot c.ar
 pub loop-access-preserved : goal.loop-access-preserved
 loop-access-preserved c =
     let n = length-append_line c.args.snapshot c.args.accesses.now in (
-      omega (arith, c.loop-access.invariant.0, c.put-access-at.ensures.value),
-      append_more c.put-at.new.out c.args.accesses.now c.loop-access.access-index c.loop-access.at c.loop-access.out c.put-access-at.new.out (access 0 0)
-          (omega arith) c.loop-access-test.true c.loop-access.invariant.0 c.loop-access.invariant.1 c.put-access-at.ensures.after,
-      fit_more c.args.accesses.now c.loop-access.access-index (access 0 0) c.loop-access-test.true c.loop-access.invariant.2 c.put-access-at.ensures.fields.0 c.put-access-at.ensures.fields.1,
+      omega (arith, c.loop-access.invariant.0, c.put_access-at.ensures.value),
+      append_more c.put-at.new.out c.args.accesses.now c.loop-access.access-index c.loop-access.at c.loop-access.out c.put_access-at.new.out (access 0 0)
+          (omega arith) c.loop-access-test.true c.loop-access.invariant.0 c.loop-access.invariant.1 c.put_access-at.ensures.after,
+      fit_more c.args.accesses.now c.loop-access.access-index (access 0 0) c.loop-access-test.true c.loop-access.invariant.2 c.put_access-at.ensures.fields.0 c.put_access-at.ensures.fields.1,
     )
 
 pub returns : goal.returns

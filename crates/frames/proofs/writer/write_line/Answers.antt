@@ -12,7 +12,7 @@ pub returns-then-out-needed : goal.returns-then-out-needed
 returns-then-out-needed c =
     let u : no_line_of (content_of c.args.frame) ≡ None = cc in
     record {
-      answer = answer_short (content_of c.args.frame) (length c.args.out.now) c.line-length-needed.result u c.line-length-needed.ensures.value c.if-out-needed.true;
+      answer = answer_short (content_of c.args.frame) (length c.args.out.now) c.line_length-needed.result u c.line_length-needed.ensures.value c.if-out-needed.true;
       buffer = refl;
       reads = tt;
       within = tt;
@@ -21,11 +21,11 @@ returns-then-out-needed c =
 pub returns : goal.returns
 returns c =
     let u : no_line_of (content_of c.args.frame) ≡ None = cc in
-    let f = over_put [] (line_of (content_of c.args.frame)) c.args.out.now c.put-frame-end.result 10 (omega (arith, c.put-frame-end.ensures.value)) (omega (arith, c.line-length-needed.ensures.value)) in
-    let b : set c.put-frame-end.new.out c.put-frame-end.result 10 ≡ over (written (content_of c.args.frame)) c.args.out.now = cc in
+    let f = over_put [] (line_of (content_of c.args.frame)) c.args.out.now c.put_frame-end.result 10 (omega (arith, c.put_frame-end.ensures.value)) (omega (arith, c.line_length-needed.ensures.value)) in
+    let b : set c.put_frame-end.new.out c.put_frame-end.result 10 ≡ over (written (content_of c.args.frame)) c.args.out.now = cc in
     record {
-      answer = answer_ok (content_of c.args.frame) (length c.args.out.now) c.line-length-needed.result u c.line-length-needed.ensures.value c.if-out-needed.false;
+      answer = answer_ok (content_of c.args.frame) (length c.args.out.now) c.line_length-needed.result u c.line_length-needed.ensures.value c.if-out-needed.false;
       buffer = b;
-      reads = buffer_reads (content_of c.args.frame) c.args.out.now _ c.line-length-needed.result u c.put-frame-end.ensures.fields c.line-length-needed.ensures.value b;
+      reads = buffer_reads (content_of c.args.frame) c.args.out.now _ c.line_length-needed.result u c.put_frame-end.ensures.fields c.line_length-needed.ensures.value b;
       within = (omega arith, simp length-set (omega arith));
     }
