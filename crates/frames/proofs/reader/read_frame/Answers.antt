@@ -6,5 +6,5 @@ use Rattle.frames.proofs.reader.read_frame.Goals as goal
 pub returns-in-17 : goal.returns-in-17
 returns-in-17 c = let e = take_rest c.args.bytes.now 3 in grind (arith, nat_tests)
 
-pub returns-in-default : goal.returns-in-default
-returns-in-default c = grind (arith, nat_tests)
+pub returns-in_default : goal.returns-in_default
+returns-in_default c = grind (arith, nat_tests)

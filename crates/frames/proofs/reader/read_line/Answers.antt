@@ -11,10 +11,10 @@ use Rattle.frames.proofs.ReadLaws.{row_whole, by_bytes, too_long}
 use Rattle.frames.proofs.RoundTripLaws.{passed, answer_is_written}
 use Rattle.frames.proofs.reader.read_line.Goals as goal
 
-pub returns-then-len-gt-LONGEST-FRAME : goal.returns-then-len-gt-LONGEST-FRAME
-returns-then-len-gt-LONGEST-FRAME c =
+pub returns-then-len-gt-LONGEST_FRAME : goal.returns-then-len-gt-LONGEST_FRAME
+returns-then-len-gt-LONGEST_FRAME c =
     let line = c.args.line.now in
-    let decoded = c.in-ok-decode.ensures in
+    let decoded = c.in_ok-decode.ensures in
     let bad = (passed (ltb (prefix_len is_hex_digit line) (length line)) (NotHexadecimal (prefix_len is_hex_digit line)) (Ok tt) _ (sym decoded.answer)).0 in
     let n = length-bytes_in line in
     let kind = decoded.bytes 0 (omega arith) (omega arith) in

@@ -5,8 +5,8 @@ use Rattle.frames.specs.Contents.{AccessesFit}
 use Rattle.frames.proofs.WriteLaws.{length-append_line, append_more, append_all, fit_more}
 use Rattle.frames.proofs.writer.put_append.Goals as goal
 
-pub put-access-at-requires : goal.put-access-at-requires
-put-access-at-requires c = omega (arith, length-append_line c.args.snapshot c.args.accesses.now)
+pub put_access-at-requires : goal.put_access-at-requires
+put_access-at-requires c = omega (arith, length-append_line c.args.snapshot c.args.accesses.now)
 
 pub loop-access-preserved : goal.loop-access-preserved
 loop-access-preserved c =

@@ -8,7 +8,7 @@ pub loop-v-preserved : goal.loop-v-preserved
 loop-v-preserved c = (
   length-set _ _ _ ∙ c.loop-v.invariant.0,
   λ k l.
-      ap (λ (x : ℕ). get_or (set c.loop-v.needs c.loop-v.v x) k 0) c.joint-need.ensures
+      ap (λ (x : ℕ). get_or (set c.loop-v.needs c.loop-v.v x) k 0) c.joint_need.ensures
       ∙ fill_by_more (joint_need_of c.args.touched.now c.args.plains.now) c.loop-v.needs c.loop-v.v 0 (omega (arith, c.loop-v-test.true, c.loop-v.invariant.0)) c.loop-v.invariant.1 k l,
 )
 

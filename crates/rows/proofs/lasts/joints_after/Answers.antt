@@ -8,7 +8,7 @@ pub loop-p-preserved : goal.loop-p-preserved
 loop-p-preserved c = (
   length-set _ _ _ ∙ c.loop-p.invariant.0,
   λ k l.
-      ap (λ (x : ℕ). get_or (set c.loop-p.after c.loop-p.p x) k 0) c.joint-at.ensures
+      ap (λ (x : ℕ). get_or (set c.loop-p.after c.loop-p.p x) k 0) c.joint_at.ensures
       ∙ fill_by_more (joint_at_of c.args.touched.now c.args.joints.now c.args.number) c.loop-p.after c.loop-p.p 0 (omega (arith, c.loop-p-test.true, c.loop-p.invariant.0)) c.loop-p.invariant.1 k l,
 )
 

@@ -5,8 +5,8 @@ use Rattle.terms.specs.declared.access.Access.{Access}
 use Rattle.rows.proofs.Marked.{no_access}
 use Rattle.rows.proofs.scans.known_cells.Goals as goal
 
-pub returns-then-access-gt-LAST-CELL : goal.returns-then-access-gt-LAST-CELL
-returns-then-access-gt-LAST-CELL c =
+pub returns-then-access-gt-LAST_CELL : goal.returns-then-access-gt-LAST_CELL
+returns-then-access-gt-LAST_CELL c =
     let e = prefix_len-drop_no (λ (a : Access). leb a.cell 1023) c.args.accesses.now c.loop-index.index no_access c.loop-index-test.true (grind (arith, nat_tests)) in
     omega (arith, c.loop-index.invariant)
 

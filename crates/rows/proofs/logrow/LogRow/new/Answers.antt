@@ -4,12 +4,12 @@ use Rattle.model.specs.Finding.{all}
 use Rattle.rows.specs.Known.{known}
 use Rattle.rows.proofs.logrow.LogRow.new.Goals as goal
 
-pub invariant-of-result : goal.invariant-of-result
-invariant-of-result c =
-    let e = take_at c.copy-from-slice.new.self _ (length c.args.accesses.now) (ap length c.copy-from-slice.ensures.after) in
-    (c.requires.some, (c.requires.few, (ap (all known) (e ∙ c.copy-from-slice.ensures.after) ∙ c.requires.marked, tt)))
+pub invariant_of-result : goal.invariant_of-result
+invariant_of-result c =
+    let e = take_at c.copy_from_slice.new.self _ (length c.args.accesses.now) (ap length c.copy_from_slice.ensures.after) in
+    (c.requires.some, (c.requires.few, (ap (all known) (e ∙ c.copy_from_slice.ensures.after) ∙ c.requires.marked, tt)))
 
 pub returns : goal.returns
 returns c =
-    let e = take_at c.copy-from-slice.new.self _ (length c.args.accesses.now) (ap length c.copy-from-slice.ensures.after) in
-    ap (λ xs. record { intention = record { snapshot = c.args.snapshot; accesses = xs }; verdict = _ }) (e ∙ c.copy-from-slice.ensures.after)
+    let e = take_at c.copy_from_slice.new.self _ (length c.args.accesses.now) (ap length c.copy_from_slice.ensures.after) in
+    ap (λ xs. record { intention = record { snapshot = c.args.snapshot; accesses = xs }; verdict = _ }) (e ∙ c.copy_from_slice.ensures.after)

@@ -9,8 +9,8 @@ use Rattle.workers.proofs.table.Workers.lacking.Goals as goal
 pub loop-v-init : goal.loop-v-init
 loop-v-init c = exists_none (lacks_at c.args.self.now c.args.w)
 
-pub returns-then-posted-oldest-need : goal.returns-then-posted-oldest-need
-returns-then-posted-oldest-need c =
+pub returns-then-posted-oldest_need : goal.returns-then-posted-oldest_need
+returns-then-posted-oldest_need c =
     sym (exists_from (lacks_at c.args.self.now c.args.w) c.args.count c.loop-v.v (omega arith) (lt-ltb _ _ (omega arith)))
 
 pub loop-v-preserved : goal.loop-v-preserved

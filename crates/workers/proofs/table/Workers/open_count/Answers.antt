@@ -10,7 +10,7 @@ pub loop-w-preserved : goal.loop-w-preserved
 loop-w-preserved c =
     let t = c.args.self.now in
     let more = sum_by_more (λ (x : Worker). cond (is_on x.status) 1 0) (workers_of t) c.loop-w.w no_worker (omega (arith, workers-length t)) in
-    (omega (arith, more, c.loop-w.invariant.0, c.open-at-count.ensures.value), omega (arith, c.loop-w.invariant.1))
+    (omega (arith, more, c.loop-w.invariant.0, c.open_at-count.ensures.value), omega (arith, c.loop-w.invariant.1))
 
 pub returns : goal.returns
 returns c =

@@ -8,6 +8,6 @@ use Rattle.workers.proofs.table.Workers.push_joint.Goals as goal
 pub returns : goal.returns
 returns c =
     let t = c.args.self.now in
-    let p = c.push-joint.ensures in
-    wrote_joint t 0 (worker_of joint_order c.push-joint.new.self) (pushed (joint_order c.args.order)) refl
-    (pushed_shows joint_order t.joint c.push-joint.new.self c.args.order (is_ok c.push-joint.result) c.requires p.answer p.orders p.status p.posted)
+    let p = c.push_joint.ensures in
+    wrote_joint t 0 (worker_of joint_order c.push_joint.new.self) (pushed (joint_order c.args.order)) refl
+    (pushed_shows joint_order t.joint c.push_joint.new.self c.args.order (is_ok c.push_joint.result) c.requires p.answer p.orders p.status p.posted)

@@ -11,7 +11,7 @@ pub loop-w-preserved : goal.loop-w-preserved
 loop-w-preserved c =
     let t = c.args.self.now in
     let more = sum_by_more queued_at (workers_of t) c.loop-w.w no_worker (omega (arith, workers-length t)) in
-    (omega (arith, more, c.loop-w.invariant.0, c.queued-at-count.ensures.value), omega (arith, c.loop-w.invariant.1))
+    (omega (arith, more, c.loop-w.invariant.0, c.queued_at-count.ensures.value), omega (arith, c.loop-w.invariant.1))
 
 pub returns : goal.returns
 returns c =

@@ -5,4 +5,4 @@ use Rattle.workers.proofs.Tables.{wrote_plain}
 use Rattle.workers.proofs.table.Workers.set_status.Goals as goal
 
 pub returns : goal.returns
-returns c = wrote_plain c.args.self.now c.args.w c.index-mut-worker.result.now (omega arith) c.requires c.index-mut-worker.ensures.value c.set-status-2.new.self (in_status c.args.status) (c.set-status-2.ensures plain_order)
+returns c = wrote_plain c.args.self.now c.args.w c.index_mut-worker.result.now (omega arith) c.requires c.index_mut-worker.ensures.value c.set_status-2.new.self (in_status c.args.status) (c.set_status-2.ensures plain_order)
