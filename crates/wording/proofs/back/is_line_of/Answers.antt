@@ -6,14 +6,14 @@ use Rattle.wording.proofs.BackLaws.{read_line_is, refused_has_none, compared}
 use Rattle.wording.proofs.back.is_line_of.Goals as goal
 use Rattle.std.proofs.lemmas.Bool.Decides.{Decides-eqb}
 
-pub returns-in-default : goal.returns-in-default
-returns-in-default c =
-    let no = refused_has_none (content_of c.args.frame) c.args.line.now _ c.in-default.ensures.answer in
+pub returns-in_default : goal.returns-in_default
+returns-in_default c =
+    let no = refused_has_none (content_of c.args.frame) c.args.line.now _ c.in_default.ensures.answer in
     record { answer = no; reads = λ e. no ∙ read_line_is _ _ e }
 
 pub returns : goal.returns
 returns c =
-    let out = c.write-line.new.out in
+    let out = c.write_line.new.out in
     let n = c.in-Ok.written in
     let z : n - 1 - 0 ≡ n - 1 = omega arith in
     let read = ap (λ (k : ℕ). read_answer (take k out)) z ∙ c.in-Ok.ensures.reads in

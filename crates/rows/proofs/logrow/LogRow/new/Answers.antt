@@ -7,7 +7,7 @@ use Rattle.rows.proofs.logrow.LogRow.new.Goals as goal
 pub invariant_of-result : goal.invariant_of-result
 invariant_of-result c =
     let e = take_at c.copy_from_slice.new.self _ (length c.args.accesses.now) (ap length c.copy_from_slice.ensures.after) in
-    (c.requires.some, (c.requires.few, (ap (all known) (e ∙ c.copy_from_slice.ensures.after) ∙ c.requires.marked, tt)))
+    record { some = c.requires.some; few = c.requires.few; marked = ap (all known) (e ∙ c.copy_from_slice.ensures.after) ∙ c.requires.marked }
 
 pub returns : goal.returns
 returns c =

@@ -7,7 +7,7 @@ pub invariant-of-result : goal.invariant-of-result
 invariant-of-result c =
     let w = c.in-ok-workers.ensures in
     let r = c.in-ok-rows.ensures in
-    (r.capacity, (omega (arith, r.len), (omega arith, (fresh_fit _ _ w, (omega (arith, fresh_count _ w), tt)))))
+    record { reserved = r.capacity; short = omega (arith, r.len); handed = omega arith; fit = fresh_fit _ _ w; counted = omega (arith, fresh_count _ w) }
 
 pub returns : goal.returns
 returns c =

@@ -9,10 +9,10 @@ pub returns-then-v-gt0 : goal.returns-then-v-gt0
 returns-then-v-gt0 c =
     let t = c.args.self.now in
     let (x, is) = plain_there t c.args.w (omega arith) c.requires.low.0 in
-    let o = c.requires.oldest.plain (omega arith) x is (record { number = 0; goal = 0 }) in
+    let o = c.requires.oldest.plain (omega arith) x is (record { number = 0; need = 0 }) in
     sym (ap (λ (y : Order). get_or y.needs c.args.v 0) (sym o) ∙ plain_need _ c.args.v c.requires.low.1 ∙ cond-false (eqb c.args.v 0) _ _ (ne_eqb c.args.v 0 (λ z. omega arith)))
 
 pub returns : goal.returns
 returns c =
-    let o = c.requires.oldest.plain (omega arith) c.index-worker.result.now c.index-worker.ensures (record { number = 0; goal = 0 }) in
+    let o = c.requires.oldest.plain (omega arith) c.index-worker.result.now c.index-worker.ensures (record { number = 0; need = 0 }) in
     sym (ap (λ (y : Order). get_or y.needs c.args.v 0) (sym o) ∙ plain_need _ c.args.v c.requires.low.1 ∙ cond-true (eqb c.args.v 0) _ _ (eq-eqb c.args.v 0 (omega arith)))
