@@ -7,17 +7,23 @@ use Rattle.store.proofs.Fitting.{fits_more}
 use Rattle.store.proofs.Reading.{row_count}
 use Rattle.store.proofs.store.Store.append.Goals as goal
 
-pub push-reserved-requires : goal.push-reserved-requires
-push-reserved-requires c = let s = c.args.self.now in omega (arith, s.reserved, c.requires.room, row_count s.rows)
+pub push_reserved-requires : goal.push_reserved-requires
+push_reserved-requires c = let s = c.args.self.now in omega (arith, s.reserved, c.requires.room, row_count s.rows)
 
-pub invariant-of-self : goal.invariant-of-self
-invariant-of-self c =
+pub invariant_of-self : goal.invariant_of-self
+invariant_of-self c =
     let s = c.args.self.now in
-    let n = c.push-reserved.ensures.len in
-    (omega (arith, c.push-reserved.ensures.capacity, s.reserved), (omega (arith, n, c.requires.room, row_count s.rows), (omega (arith, n, s.handed), (fits_more (vec_len s.rows) _ _ (omega (arith, n)) s.fit, (s.counted, tt)))))
+    let n = c.push_reserved.ensures.len in
+    record {
+      reserved = omega (arith, c.push_reserved.ensures.capacity, s.reserved);
+      short = omega (arith, n, c.requires.room, row_count s.rows);
+      handed = omega (arith, n, s.handed);
+      fit = fits_more (vec_len s.rows) _ _ (omega (arith, n)) s.fit;
+      counted = s.counted;
+    }
 
 pub returns : goal.returns
 returns c =
     let s = c.args.self.now in
-    let rows = ap rows_of c.push-reserved.ensures.items ∙ map_push row_of (vec_items s.rows) c.new-row.result ∙ ap (λ (r : Row). rows_of (vec_items s.rows) ++ r ∷ []) c.new-row.ensures in
+    let rows = ap rows_of c.push_reserved.ensures.items ∙ map_push row_of (vec_items s.rows) c.new-row.result ∙ ap (λ (r : Row). rows_of (vec_items s.rows) ++ r ∷ []) c.new-row.ensures in
     ap (λ (rs : List Row). record { rows = rs; assigned = s.assigned; finished = s.finished; workers = (view s).workers; marks = s.marks; joints = s.joints; plains = s.plains }) rows

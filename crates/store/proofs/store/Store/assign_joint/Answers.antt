@@ -10,28 +10,28 @@ use Rattle.store.proofs.Fitting.{fits_at, pushed_fits, all_fit, all_counted}
 use Rattle.store.proofs.Reading.{row_count}
 use Rattle.store.proofs.store.Store.assign_joint.Goals as goal
 
-pub invariant-of-self : goal.invariant-of-self
-invariant-of-self c =
+pub invariant_of-self : goal.invariant_of-self
+invariant_of-self c =
     let s = c.args.self.now in
     let ws = workers_of s.workers in
-    let o : Order = record { number = s.assigned + 1; needs = c.joint-needs-needs.result } in
+    let o : Order = record { number = s.assigned + 1; needs = c.joint_needs-needs.result } in
     let long = workers-length s.workers in
     let rows = row_count s.rows in
     let n = vec_len s.rows in
     let (a, b) = fits_at n ws 0 (omega arith) s.fit in
-    let after = workers_of c.push-joint.new.self in
-    let counted = all_counted ws after 0 (pushed o (worker_at ws 0)) c.push-joint.ensures (omega arith) in
-    let fit = all_fit ws after 0 (pushed o (worker_at ws 0)) c.push-joint.ensures n s.fit (pushed_fits n (worker_at ws 0) o a b (omega arith) (omega (arith, c.requires.left))) in
-    (s.reserved, (s.short, (omega (arith, c.requires.left), (fit, (omega (arith, counted, s.counted, length_push (worker_at ws 0).orders o), tt)))))
+    let after = workers_of c.push_joint.new.self in
+    let counted = all_counted ws after 0 (pushed o (worker_at ws 0)) c.push_joint.ensures (omega arith) in
+    let fit = all_fit ws after 0 (pushed o (worker_at ws 0)) c.push_joint.ensures n s.fit (pushed_fits n (worker_at ws 0) o a b (omega arith) (omega (arith, c.requires.left))) in
+    record { reserved = s.reserved; short = s.short; handed = omega (arith, c.requires.left); fit = fit; counted = omega (arith, counted, s.counted, length_push (worker_at ws 0).orders o) }
 
 pub returns : goal.returns
 returns c =
     let s = c.args.self.now in
     let ws = workers_of s.workers in
-    let workers = c.push-joint.ensures ∙ ap (λ (needs : List ℕ). set ws 0 (pushed (record { number = s.assigned + 1; needs = needs }) (worker_at ws 0))) c.joint-needs-needs.ensures in
+    let workers = c.push_joint.ensures ∙ ap (λ (needs : List ℕ). set ws 0 (pushed (record { number = s.assigned + 1; needs = needs }) (worker_at ws 0))) c.joint_needs-needs.ensures in
     record {
       answer = refl;
       after =
-          ap (λ (js : List ℕ). record { rows = (view s).rows; assigned = s.assigned + 1; finished = s.finished; workers = workers_of c.push-joint.new.self; marks = s.marks; joints = js; plains = s.plains }) c.joints-after-joints.ensures
+          ap (λ (js : List ℕ). record { rows = (view s).rows; assigned = s.assigned + 1; finished = s.finished; workers = workers_of c.push_joint.new.self; marks = s.marks; joints = js; plains = s.plains }) c.joints_after-joints.ensures
           ∙ ap (λ (xs : List Worker). record { rows = (view s).rows; assigned = s.assigned + 1; finished = s.finished; workers = xs; marks = s.marks; joints = joints_after_of c.args.touched.now s.joints (s.assigned + 1); plains = s.plains }) workers;
     }

@@ -8,8 +8,8 @@ use Rattle.store.proofs.Fitting.{fits_at, pushed_fits, all_fit, all_counted}
 use Rattle.store.proofs.Reading.{row_count}
 use Rattle.store.proofs.store.Store.assign_plain.Goals as goal
 
-pub invariant-of-self : goal.invariant-of-self
-invariant-of-self c =
+pub invariant_of-self : goal.invariant_of-self
+invariant_of-self c =
     let s = c.args.self.now in
     let p = c.args.p in
     let ws = workers_of s.workers in
@@ -18,7 +18,7 @@ invariant-of-self c =
     let rows = row_count s.rows in
     let n = vec_len s.rows in
     let (a, b) = fits_at n ws p (omega arith) s.fit in
-    let after = workers_of c.push-plain.new.self in
-    let counted = all_counted ws after p (pushed o (worker_at ws p)) c.push-plain.ensures (omega arith) in
-    let fit = all_fit ws after p (pushed o (worker_at ws p)) c.push-plain.ensures n s.fit (pushed_fits n (worker_at ws p) o a b (omega arith) (omega (arith, c.requires.left))) in
-    (s.reserved, (s.short, (omega (arith, c.requires.left), (fit, (omega (arith, counted, s.counted, length_push (worker_at ws p).orders o), tt)))))
+    let after = workers_of c.push_plain.new.self in
+    let counted = all_counted ws after p (pushed o (worker_at ws p)) c.push_plain.ensures (omega arith) in
+    let fit = all_fit ws after p (pushed o (worker_at ws p)) c.push_plain.ensures n s.fit (pushed_fits n (worker_at ws p) o a b (omega arith) (omega (arith, c.requires.left))) in
+    record { reserved = s.reserved; short = s.short; handed = omega (arith, c.requires.left); fit = fit; counted = omega (arith, counted, s.counted, length_push (worker_at ws p).orders o) }

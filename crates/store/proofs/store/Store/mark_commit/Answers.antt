@@ -16,7 +16,7 @@ returns c =
     let v = s.rows in
     let was = row_read (vec_items v) (c.args.number - 1) c.index.result.now (omega (arith, row_count v, v.ok.0)) c.index.ensures in
     let marks =
-    c.set-marks.ensures
+    c.set_marks.ensures
     ∙ ap (λ (xs : List Access). marking c.args.number xs s.marks) (c.accesses.ensures.value ∙ ap (λ (r : Row). r.intention.accesses) was)
     ∙ sym (cond-true c.args.commits _ _ c.if-not-commits.false) in
     ap (λ (ms : List ℕ). record { rows = (view s).rows; assigned = s.assigned; finished = s.finished; workers = (view s).workers; marks = ms; joints = s.joints; plains = s.plains }) marks

@@ -11,26 +11,26 @@ use Rattle.store.proofs.store.Store.settle.Goals as goal
 there : (s : Store) (w k : ℕ) → is_held_on k (worker_at (workers_of s.workers) w).status ≡ true → HeldOn (vec_len s.rows) (workers_of s.workers) w k
 there s w k e = held_on (vec_len s.rows) (workers_of s.workers) w k (workers-length s.workers) s.fit e
 
-pub mark-commit-requires : goal.mark-commit-requires
-mark-commit-requires c =
+pub mark_commit-requires : goal.mark_commit-requires
+mark_commit-requires c =
     let s = c.args.self.now in
     let h = there s c.args.w c.args.number c.requires in
     (h.first, omega (arith, h.last, row_count s.rows))
 
-pub record-verdict-requires : goal.record-verdict-requires
-record-verdict-requires c =
+pub record_verdict-requires : goal.record_verdict-requires
+record_verdict-requires c =
     let s = c.args.self.now in
     let h = there s c.args.w c.args.number c.requires in
-    (h.first, omega (arith, h.last, row_count s.rows, ap (λ (t : State). length t.rows) c.mark-commit.ensures))
+    (h.first, omega (arith, h.last, row_count s.rows, ap (λ (t : State). length t.rows) c.mark_commit.ensures))
 
 pub close-requires : goal.close-requires
 close-requires c =
     let s = c.args.self.now in
     let h = there s c.args.w c.args.number c.requires in
-    let same = c.record-verdict.ensures ∙ ap (λ (t : State). with_verdict t c.args.number c.args.commits) c.mark-commit.ensures in
+    let same = c.record_verdict.ensures ∙ ap (λ (t : State). with_verdict t c.args.number c.args.commits) c.mark_commit.ensures in
     record { low = h.low; some = ap (λ (t : State). is_empty (worker_at t.workers c.args.w).orders) same ∙ h.some }
 
 pub returns : goal.returns
 returns c =
     c.close.ensures
-    ∙ ap (λ (t : State). closed t c.args.w c.args.number) (c.record-verdict.ensures ∙ ap (λ (t : State). with_verdict t c.args.number c.args.commits) c.mark-commit.ensures)
+    ∙ ap (λ (t : State). closed t c.args.w c.args.number) (c.record_verdict.ensures ∙ ap (λ (t : State). with_verdict t c.args.number c.args.commits) c.mark_commit.ensures)
