@@ -96,9 +96,9 @@ mod tests {
     #[test]
     fn the_last_line_needs_no_line_feed(rt: HostRuntime) {
         let (line, rest) = first_line(b"02\n06");
-        assert!(rt; line == b"02");
+        assert!(rt; line == b"02".as_slice());
         let (line, rest) = first_line(rest);
-        assert!(rt; line == b"06");
+        assert!(rt; line == b"06".as_slice());
         assert!(rt; rest.len() == 0);
     }
 }
