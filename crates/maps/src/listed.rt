@@ -1,10 +1,7 @@
 // The listed map: a table has the partition of each cell.
 ghost use Rattle.std.specs.Prelude.{◌≡◌, ◌≤◌, length, replicate, is_ok, if◌then◌else◌};
 ghost use Rattle.maps.specs.Layouts.{listed, good_entries_of, load_answer};
-ghost use Rattle.std.proofs.Common.{arith};
-ghost use Rattle.std.proofs.lemmas.Bool.Decides.{nat_tests};
-ghost use Rattle.terms.proofs.Leading.{leading_at};
-ghost use Rattle.terms.specs.Numbers.{within};
+ghost use Rattle.maps.specs.LayoutLaws.{listed_lawful};
 
 use super::fault::MapFault;
 use super::map::CellMap;
@@ -70,14 +67,7 @@ fn good_entries(n: u8, table: &[u8]) -> usize
 impl CellMap for ListedMap {
     ghost meaning = { λ m. listed m.n m.table };
 
-    ghost lawful = { λ m.
-        record {
-          some = m.some;
-          few = m.few;
-          first = λ cell h. let e = leading_at (within 1 m.n) m.table cell 0 (omega arith) in Prim.grind (arith, nat_tests);
-          last = λ cell h. let e = leading_at (within 1 m.n) m.table cell 0 (omega arith) in Prim.grind (arith, nat_tests);
-          none = λ cell h. Prim.grind (arith, nat_tests);
-        } };
+    ghost lawful = { λ m. listed_lawful m.n m.table m.some m.few m.good };
 
     fn partitions(&self) -> u8 {
         self.n

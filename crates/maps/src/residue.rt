@@ -2,7 +2,7 @@
 ghost use Rattle.std.specs.Prelude.{◌≡◌, ◌≤◌};
 ghost use Rattle.terms.specs.Refusals.{ok_as};
 ghost use Rattle.maps.specs.Layouts.{residues, make_answer};
-ghost use Rattle.std.proofs.Common.{rules, arith};
+ghost use Rattle.maps.specs.LayoutLaws.{residues_lawful};
 
 use super::fault::MapFault;
 use super::map::CellMap;
@@ -30,7 +30,7 @@ impl ResidueMap {
 impl CellMap for ResidueMap {
     ghost meaning = { λ m. residues m.n };
 
-    ghost lawful = { first_of (Prim.search rules, Prim.grind (arith, Self.row.coded.inj)) };
+    ghost lawful = { λ m. residues_lawful m.n m.some m.few };
 
     fn partitions(&self) -> u8 {
         self.n

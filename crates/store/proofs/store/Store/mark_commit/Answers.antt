@@ -1,4 +1,4 @@
-use Rattle.std.proofs.Common.{ℕ, ◌-◌, List, vec_items, sym, ap, ◌∙◌, arith}
+use Rattle.std.proofs.Common.{◌≡◌, ℕ, ◌-◌, true, List, vec_items, sym, ap, ◌∙◌, arith}
 use Rattle.std.proofs.lemmas.Bool.{cond-true}
 use Rattle.terms.specs.declared.access.Access.{Access}
 use Rattle.model.specs.State.{Row}
@@ -15,8 +15,9 @@ returns c =
     let s = c.args.self.now in
     let v = s.rows in
     let was = row_read (vec_items v) (c.args.number - 1) c.index.result.now (omega (arith, row_count v, v.ok.0)) c.index.ensures in
+    let commits : c.args.commits ≡ true = cc in
     let marks =
     c.set_marks.ensures
     ∙ ap (λ (xs : List Access). marking c.args.number xs s.marks) (c.accesses.ensures.value ∙ ap (λ (r : Row). r.intention.accesses) was)
-    ∙ sym (cond-true c.args.commits _ _ c.if-not-commits.false) in
+    ∙ sym (cond-true c.args.commits _ _ commits) in
     ap (λ (ms : List ℕ). record { rows = (view s).rows; assigned = s.assigned; finished = s.finished; workers = (view s).workers; marks = ms; joints = s.joints; plains = s.plains }) marks
