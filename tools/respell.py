@@ -1,7 +1,8 @@
 #!/usr/bin/env python3
 """Brings this repository's own definitions and lemmas to the spelling of today's Rattle: functions, lemmas, fields and
 constructors in snake case, facts in camel case, a dash only between two names. It goes by whole names and by the table
-below, old name and new name; a definition that would have got the name of a function of src/ has `_of` after it.
+in respell.txt, old name and new name; a definition that the table would have given the name of a function of src/ has
+`_of` after it, or another name.
 
 usage: python3 tools/respell.py        once, at the top, right after Rattle's own port script; tools/respell.txt is the table
 """

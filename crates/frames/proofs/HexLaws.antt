@@ -4,18 +4,18 @@ use Rattle.std.proofs.lemmas.List.Sums.{prefix_len-drop_yes}
 use Rattle.std.proofs.lemmas.Bool.{cases_Bool, cond-true, cond-false}
 use Rattle.std.proofs.lemmas.Bool.Decides.{nat_tests}
 use Rattle.std.specs.List.{prefix_len}
-use Rattle.frames.specs.Hex.{hex_digit_of, is_hex_digit, value_of, hex_of, bytes_in, Bytes}
+use Rattle.frames.specs.Hex.{hex_digit_of, is_hex_digit, hex_value_of, hex_of, bytes_in, Bytes}
 
 pub digit_is : (v : ℕ) → v < 16 → is_hex_digit (hex_digit_of v) ≡ true
 digit_is v h = grind (arith, nat_tests)
 
-pub digit_value : (v : ℕ) → v < 16 → value_of (hex_digit_of v) ≡ v
+pub digit_value : (v : ℕ) → v < 16 → hex_value_of (hex_digit_of v) ≡ v
 digit_value v h = grind (arith, nat_tests)
 
-pub value_digit : (c : ℕ) → is_hex_digit c ≡ true → hex_digit_of (value_of c) ≡ c
+pub value_digit : (c : ℕ) → is_hex_digit c ≡ true → hex_digit_of (hex_value_of c) ≡ c
 value_digit c h = grind (arith, nat_tests)
 
-pub value_below : (c : ℕ) → is_hex_digit c ≡ true → value_of c < 16
+pub value_below : (c : ℕ) → is_hex_digit c ≡ true → hex_value_of c < 16
 value_below c h = grind (arith, nat_tests)
 
 pub length-hex_of : (bs : List ℕ) → length (hex_of bs) ≡ 2 * length bs
@@ -26,7 +26,7 @@ pub bytes_in-hex_of : (bs : List ℕ) → Bytes bs → bytes_in (hex_of bs) ≡ 
 bytes_in-hex_of [] h = refl
 bytes_in-hex_of (b ∷ bs) h =
     let p = h.0 in
-    let e : 16 * value_of (hex_digit_of (b / 16)) + value_of (hex_digit_of (b % 16)) ≡ b = omega (arith, digit_value (b / 16) (omega arith), digit_value (b % 16) (omega arith)) in
+    let e : 16 * hex_value_of (hex_digit_of (b / 16)) + hex_value_of (hex_digit_of (b % 16)) ≡ b = omega (arith, digit_value (b / 16) (omega arith), digit_value (b % 16) (omega arith)) in
     let f = bytes_in-hex_of bs h.1 in cc
 
 -- the digits of bytes are digits throughout
@@ -55,8 +55,8 @@ hex_of-bytes_in (c ∷ d ∷ cs) e h =
     let (t, u) = hex_of-bytes_in cs (omega arith) s in
     let v = value_below c p in
     let w = value_below d r in
-    let x : (16 * value_of c + value_of d) / 16 ≡ value_of c = omega arith in
-    let y : (16 * value_of c + value_of d) % 16 ≡ value_of d = omega arith in
+    let x : (16 * hex_value_of c + hex_value_of d) / 16 ≡ hex_value_of c = omega arith in
+    let y : (16 * hex_value_of c + hex_value_of d) % 16 ≡ hex_value_of d = omega arith in
     let high = ap hex_digit_of x ∙ value_digit c p in
     let low = ap hex_digit_of y ∙ value_digit d r in
     (cc, (omega arith, u))
@@ -66,7 +66,7 @@ length-bytes_in [] = refl
 length-bytes_in (c ∷ []) = refl
 length-bytes_in (c ∷ d ∷ cs) = omega (arith, length-bytes_in cs)
 
-pub get_or-bytes_in : (i : ℕ) (cs : List ℕ) → i < length cs / 2 → get_or (bytes_in cs) i 0 ≡ 16 * value_of (get_or cs (2 * i) 0) + value_of (get_or cs (2 * i + 1) 0)
+pub get_or-bytes_in : (i : ℕ) (cs : List ℕ) → i < length cs / 2 → get_or (bytes_in cs) i 0 ≡ 16 * hex_value_of (get_or cs (2 * i) 0) + hex_value_of (get_or cs (2 * i + 1) 0)
 get_or-bytes_in i [] h = absurd (omega arith)
 get_or-bytes_in i (c ∷ []) h = absurd (omega arith)
 get_or-bytes_in zero (c ∷ d ∷ cs) h = refl

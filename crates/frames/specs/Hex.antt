@@ -10,8 +10,8 @@ abbrev pub is_hex_digit : ℕ → Bool
 is_hex_digit c = within 48 57 c || within 65 70 c
 
 -- the value of a digit
-abbrev pub value_of : ℕ → ℕ
-value_of c = cond (nat_le c 57) (c - 48) (c - 55)
+abbrev pub hex_value_of : ℕ → ℕ
+hex_value_of c = cond (nat_le c 57) (c - 48) (c - 55)
 
 -- two digits for each byte, the high one first
 abbrev pub hex_of : List ℕ → List ℕ
@@ -22,7 +22,7 @@ hex_of (b ∷ bs) = hex_digit_of (b / 16) ∷ hex_digit_of (b % 16) ∷ hex_of b
 abbrev pub bytes_in : List ℕ → List ℕ
 bytes_in [] = []
 bytes_in (c ∷ []) = []
-bytes_in (c ∷ d ∷ cs) = (16 * value_of c + value_of d) ∷ bytes_in cs
+bytes_in (c ∷ d ∷ cs) = (16 * hex_value_of c + hex_value_of d) ∷ bytes_in cs
 
 -- every number is a byte
 abbrev pub Bytes : List ℕ → Type 0

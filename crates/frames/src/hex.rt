@@ -3,7 +3,7 @@ ghost use Rattle.std.specs.Prelude.{◌≡◌, ◌+◌, ◌*◌, ◌%◌, ◌<�
 ghost use Rattle.std.specs.List.{prefix_len};
 ghost use Rattle.terms.specs.Refusals.{refuse};
 ghost use Rattle.frames.specs.declared.fault.LineFault.TheVariants.{NotHexadecimal};
-ghost use Rattle.frames.specs.Hex.{hex_digit_of, is_hex_digit, value_of, hex_of};
+ghost use Rattle.frames.specs.Hex.{hex_digit_of, is_hex_digit, hex_value_of, hex_of};
 ghost use Rattle.frames.specs.Reading.{Decoded};
 ghost use Rattle.frames.specs.Writing.{over};
 
@@ -61,7 +61,7 @@ fn is_digit(c: u8) -> bool
 
 fn value_of(c: u8) -> u8
     requires { is_hex_digit c ≡ true }
-    ensures value { result ≡ value_of c }
+    ensures value { result ≡ hex_value_of c }
     ensures bound { result < 16 }
 {
     if c <= b'9' { c - b'0' } else { c - b'A' + 10 }

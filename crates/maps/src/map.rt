@@ -14,5 +14,6 @@ pub trait CellMap {
     fn partition_of(&self, cell: u16) -> u8
         ensures { result ≡ (meaning self.now).partition cell };
 
+    // Every map proves that it has 1 to 15 partitions and puts each cell, and no number above, into one of them.
     ghost lawful: { (m : Self) → LawfulMap (meaning m) };
 }

@@ -9,7 +9,7 @@ use Rattle.model.specs.Words.{Intention, Setup, Lawful, worker}
 use Rattle.model.specs.Needs.{need_of}
 use Rattle.model.specs.Sheets.{Line, history, is_finished, is_open, is_queued, pairs, intention, assigns, finishes, open_workers, queued_orders, Unended, HasOrder, Oldest, Lowest, OpenOn, Idle, Blocked}
 use Rattle.model.specs.State.{Order, Worker, State, no_worker, worker_at, is_empty, oldest_of, is_on, on_number, status_at, posted_at, orders_at}
-use Rattle.model.specs.Model.{oldest_at, lacks, begin_answer, queued_at}
+use Rattle.model.specs.Model.{oldest_at, lacks, begin_answer, queued_count_of}
 use Rattle.model.proofs.Found.{any_some, exists_some, least}
 use Rattle.model.proofs.Sharing.{worker_most}
 use Rattle.model.proofs.Counting.{sum_split, sum_same, sum_ones, each, sum_places, sum_front}
@@ -123,7 +123,7 @@ module _ (P : Setup) (it : ℕ → Intention) (above : List Line) (s : State) (I
       ∙ sum_front f (P.map.partitions + 1) (15 - P.map.partitions) idle
 
   -- an open worker holds its order
-  held_some : (x : Worker) → (is_on x.status ≡ true → is_empty x.orders ≡ false) → length x.orders ≡ queued_at x + cond (is_on x.status) 1 0
+  held_some : (x : Worker) → (is_on x.status ≡ true → is_empty x.orders ≡ false) → length x.orders ≡ queued_count_of x + cond (is_on x.status) 1 0
   held_some x h = elim (cases_Bool (is_on x.status)) [ inl o ↦ rw o (omega (arith, full x.orders (h o))) | inr o ↦ rw o (omega arith) ]
     where
       full : (os : List Order) → is_empty os ≡ false → 0 < length os
@@ -148,10 +148,10 @@ module _ (P : Setup) (it : ℕ → Intention) (above : List Line) (s : State) (I
       let b : sum_by (λ x. o x + f x) asg ≡ sum_by o asg + sum_by f asg = sum_split (λ x. o x + f x) o f asg (each _ (λ x. refl) asg) in
       omega (arith, sum_ones asg, I.counts.done)
 
-  pub queued_is : sum_by queued_at s.workers ≡ queued_orders above
+  pub queued_is : sum_by queued_count_of s.workers ≡ queued_orders above
   queued_is =
-      let holds : All (λ x. length x.orders ≡ queued_at x + cond (is_on x.status) 1 0) s.workers = All-from_get_or _ s.workers no_worker (λ w _. held_some (worker_at s.workers w) (λ o. (I.staff.opens w o).some)) in
-      let split = sum_split (λ (x : Worker). length x.orders) queued_at (λ x. cond (is_on x.status) 1 0) s.workers holds in
+      let holds : All (λ x. length x.orders ≡ queued_count_of x + cond (is_on x.status) 1 0) s.workers = All-from_get_or _ s.workers no_worker (λ w _. held_some (worker_at s.workers w) (λ o. (I.staff.opens w o).some)) in
+      let split = sum_split (λ (x : Worker). length x.orders) queued_count_of (λ x. cond (is_on x.status) 1 0) s.workers holds in
       omega (arith, split, parts, I.counts.load, I.counts.opened)
 
   pub balanced : Lawful P → assigns above ≡ finishes above + open_workers P above + queued_orders above

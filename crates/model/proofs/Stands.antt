@@ -9,7 +9,7 @@ use Rattle.model.specs.declared.verdict.Verdict.TheVariants.{Undecided}
 use Rattle.model.specs.Words.{Intention, Setup, Lawful, has, worker}
 use Rattle.model.specs.Book.{Verdict, commits, decided}
 use Rattle.model.specs.Needs.{need_of}
-use Rattle.model.specs.Sheets.{Line, Outcome, Clash, Tally, Stood, history, is_finished, intention, one_at_aTime, appends, assigns, finishes, open_workers, queued_orders, HasOrder, Oldest, Lowest, OpenOn, Idle, Blocked}
+use Rattle.model.specs.Sheets.{Line, Outcome, Clash, Tally, Stood, history, is_finished, intention, one_at_a_time, appends, assigns, finishes, open_workers, queued_orders, HasOrder, Oldest, Lowest, OpenOn, Idle, Blocked}
 use Rattle.model.specs.Sheets.Line.{line}
 use Rattle.model.specs.Sheets.Call.{assign, begin, finish, verdict, need, tally}
 use Rattle.model.specs.State.{State, last_number, row_at, mark_at, is_empty, oldest_of, is_on, status_at, orders_at, intention_at}
@@ -72,7 +72,7 @@ module _ (P : Setup) (L : Lawful P) (sheet : List Line) (sh : Sheet P sheet) whe
       let ew : w ≡ next_worker P (state_of P above) = ap (λ (x : ℕ × ℕ). x.1) e in
       (omega (arith, J.assigned), ew ∙ ap (worker P.map) (J.rows.same (next_number (state_of P above)) (omega arith) (omega (arith, J.rows.size)) ∙ ap (intention sheet) (sym ek)))
 
-  outcomes : (above : List Line) (w k j : ℕ) (outcome : Outcome) → Stood sheet (line (finish w k) (Ok (j, outcome)) ∷ above) → (j ≡ k) × (verdict_of outcome ≡ one_at_aTime P sheet k)
+  outcomes : (above : List Line) (w k j : ℕ) (outcome : Outcome) → Stood sheet (line (finish w k) (Ok (j, outcome)) ∷ above) → (j ≡ k) × (verdict_of outcome ≡ one_at_a_time P sheet k)
   outcomes above w k j outcome st =
       let (f, e) = finish_passed P (state_of P above) w k (j, verdict_of outcome) (given (line (finish w k) (Ok (j, outcome))) above st).0 in
       (ap (λ (x : ℕ × Verdict). x.0) e, ap (λ (x : ℕ × Verdict). x.1) e ∙ ap decided (verdict_is P L (intention sheet) (history above) (state_of P above) (I (line (finish w k) (Ok (j, outcome))) above st) w k f))
@@ -83,7 +83,7 @@ module _ (P : Setup) (L : Lawful P) (sheet : List Line) (sh : Sheet P sheet) whe
       let (f, _) = finish_passed P (state_of P above) w k (j, verdict_of (Abort x)) g.0 in
       shown_clashes P L sheet above (state_of P above) (I (line (finish w k) (Ok (j, Abort x))) above st) w k f x g.1
 
-  verdicts : (above : List Line) (k : ℕ) (v : Verdict) → Stood sheet (line (verdict k) (Ok v) ∷ above) → v ≡ cond (is_finished (history above) k) (one_at_aTime P sheet k) Undecided
+  verdicts : (above : List Line) (k : ℕ) (v : Verdict) → Stood sheet (line (verdict k) (Ok v) ∷ above) → v ≡ cond (is_finished (history above) k) (one_at_a_time P sheet k) Undecided
   verdicts above k v st =
       let s = state_of P above in
       let J = I (line (verdict k) (Ok v)) above st in
@@ -168,7 +168,7 @@ pub certifier_stands_lem : CertifierStands
 certifier_stands_lem P L sheet sh = holds P L sheet sh
 
 -- what was decided is the book's
-decided_is : (P : Setup) → Lawful P → (sheet : List Line) → Sheet P sheet → (k : ℕ) (v : Verdict) → Decided sheet k v → v ≡ one_at_aTime P sheet k
+decided_is : (P : Setup) → Lawful P → (sheet : List Line) → Sheet P sheet → (k : ℕ) (v : Verdict) → Decided sheet k v → v ≡ one_at_a_time P sheet k
 decided_is P L sheet sh k v (above, w, j, outcome, stood, e) = sym e ∙ (outcomes P L sheet sh above w k j outcome stood).1
 
 pub units_agree_lem : UnitsAgree

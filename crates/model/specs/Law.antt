@@ -9,7 +9,7 @@ use Rattle.model.specs.declared.verdict.Verdict.TheVariants.{Undecided}
 use Rattle.model.specs.Words.{Access, Setup, Lawful, has, worker}
 use Rattle.model.specs.Book.{Verdict, commits}
 use Rattle.model.specs.Needs.{need_of}
-use Rattle.model.specs.Sheets.{Line, Outcome, Clash, Tally, Stood, history, is_finished, intention, one_at_aTime, appends, assigns, finishes, open_workers, queued_orders, HasOrder, Oldest, Lowest, OpenOn, Idle, Blocked}
+use Rattle.model.specs.Sheets.{Line, Outcome, Clash, Tally, Stood, history, is_finished, intention, one_at_a_time, appends, assigns, finishes, open_workers, queued_orders, HasOrder, Oldest, Lowest, OpenOn, Idle, Blocked}
 use Rattle.model.specs.Sheets.Line.{line}
 use Rattle.model.specs.Sheets.Call.{append, assign, begin, finish, verdict, need, tally}
 use Rattle.model.specs.State.{State}
@@ -42,7 +42,7 @@ pub record Law (P : Setup) (sheet : List Line) : Type 0 where
   -- a finish ends as the book of one-at-a-time verdicts says
   pub outcomes :
       (above : List Line) (w k j : ℕ) (outcome : Outcome) →
-      Stood sheet (line (finish w k) (Ok (j, outcome)) ∷ above) → (j ≡ k) × (verdict_of outcome ≡ one_at_aTime P sheet k)
+      Stood sheet (line (finish w k) (Ok (j, outcome)) ∷ above) → (j ≡ k) × (verdict_of outcome ≡ one_at_a_time P sheet k)
   -- the clash that an abort names is a real one, by the book
   pub clashes :
       (above : List Line) (w k j : ℕ) (x : Clash) →
@@ -50,7 +50,7 @@ pub record Law (P : Setup) (sheet : List Line) : Type 0 where
   -- a verdict is the book's once a finish of the number stands above it, and until then undecided
   pub verdicts :
       (above : List Line) (k : ℕ) (v : Verdict) →
-      Stood sheet (line (verdict k) (Ok v) ∷ above) → v ≡ cond (is_finished (history above) k) (one_at_aTime P sheet k) Undecided
+      Stood sheet (line (verdict k) (Ok v) ∷ above) → v ≡ cond (is_finished (history above) k) (one_at_a_time P sheet k) Undecided
   -- a worker with an order has an oldest one
   pub oldest : (above : List Line) (w i : ℕ) → Stood sheet above → HasOrder above w i → (k : ℕ) × Oldest above w k
   -- begin on an idle worker with an order waits exactly if an earlier unfinished intention touches a partition

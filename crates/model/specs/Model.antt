@@ -1,6 +1,6 @@
 -- What every call answers, and what it leaves. Assumes nothing.
 -- Every answer is a chain of checks in the order of the table of refusals, one check to a line.
-use Rattle.std.specs.Prelude.{◌≡◌, ℕ, ◌+◌, ◌-◌, ◌*◌, ◌<◌, Bool, true, cond, not, ◌&&◌, ◌||◌, ltb, leb, List, [], ◌∷◌, ◌++◌, map, length, drop, Ok, Err, sum_by, count_by, Result, ◌==◌, nat_le, nat_lt, slice_index, slice_set}
+use Rattle.std.specs.Prelude.{◌≡◌, ℕ, ◌+◌, ◌-◌, ◌*◌, ◌<◌, Bool, true, cond, not, ◌&&◌, ◌||◌, List, [], ◌∷◌, ◌++◌, map, length, drop, Ok, Err, sum_by, count_by, Result, ◌==◌, nat_le, nat_lt, slice_index, slice_set}
 use Rattle.std.specs.List.{range_with_len, prefix_len}
 use Rattle.terms.specs.Maps.{MapMeaning}
 use Rattle.terms.specs.Numbers.{within}
@@ -28,11 +28,11 @@ kept (Err fault) s leaves = s
 
 -- the index of the first access whose mode the rule does not know, or the count of accesses
 abbrev pub known_modes_of : RuleMeaning → List Access → ℕ
-known_modes_of r accesses = prefix_len (λ a. ltb a.mode r.modes) accesses
+known_modes_of r accesses = prefix_len (λ a. nat_lt a.mode r.modes) accesses
 
 -- the index of the first access whose cell is above 1,023, or the count of accesses
 abbrev pub known_cells_of : List Access → ℕ
-known_cells_of accesses = prefix_len (λ a. leb a.cell 1023) accesses
+known_cells_of accesses = prefix_len (λ a. nat_le a.cell 1023) accesses
 
 abbrev pub append_answer : Setup → State → ℕ → List Access → Result ℕ CallFault
 append_answer P s snapshot accesses =
@@ -256,8 +256,8 @@ need_answer P s w v =
 
 -- ⟨ tally ⟩
 
-abbrev pub queued_at : Worker → ℕ
-queued_at x = length x.orders - cond (is_on x.status) 1 0
+abbrev pub queued_count_of : Worker → ℕ
+queued_count_of x = length x.orders - cond (is_on x.status) 1 0
 
 abbrev pub tally_answer : State → Result Tally CallFault
 tally_answer s = Ok (record {
@@ -265,7 +265,7 @@ tally_answer s = Ok (record {
   assigned = s.assigned;
   finished = s.finished;
   «open» = count_by (λ x. is_on x.status) s.workers;
-  queued = sum_by queued_at s.workers;
+  queued = sum_by queued_count_of s.workers;
 })
 
 -- ⟨ every call ⟩

@@ -136,8 +136,8 @@ abbrev pub intention : List Line → ℕ → Intention
 intention sheet = numbered (history sheet).appended
 
 -- the verdict of intention k, by the book of what the sheet appends
-abbrev pub one_at_aTime : Setup → List Line → ℕ → Verdict
-one_at_aTime P sheet k = decided (commits P.rule (intention sheet) k)
+abbrev pub one_at_a_time : Setup → List Line → ℕ → Verdict
+one_at_a_time P sheet k = decided (commits P.rule (intention sheet) k)
 
 -- how many appends, assigns and finishes were accepted
 abbrev pub appends : List Line → ℕ

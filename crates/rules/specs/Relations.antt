@@ -1,15 +1,15 @@
 -- The three rules, over the modes read 0, write 1 and add 2. Assumes nothing.
-use Rattle.std.specs.Prelude.{Bool, ◌||◌, ◌&&◌, ℕ, eqb}
+use Rattle.std.specs.Prelude.{Bool, ◌||◌, ◌&&◌, ◌==◌, ℕ}
 use Rattle.terms.specs.Rules.{RuleMeaning}
 
 abbrev pub is_read : ℕ → Bool
-is_read mode = eqb mode 0
+is_read mode = mode == 0
 
 abbrev pub is_write : ℕ → Bool
-is_write mode = eqb mode 1
+is_write mode = mode == 1
 
 abbrev pub is_add : ℕ → Bool
-is_add mode = eqb mode 2
+is_add mode = mode == 2
 
 -- what was read may have been written since
 abbrev pub validation : RuleMeaning

@@ -10,7 +10,7 @@ pub trait ClashRule {
     // so asking cannot change it.
     ghost meaning: { RuleMeaning };
 
-    // How many modes the rule knows, for code that is generic over the rule: its proofs cannot see `MODES`.
+    // How many modes the rule knows, for code that is generic over the rule: what it answers is the meaning's count.
     fn mode_count(&self) -> u8
         ensures { result ≡ meaning.modes };
 
@@ -18,5 +18,6 @@ pub trait ClashRule {
     fn clash(&self, earlier: u8, later: u8) -> bool
         ensures { result ≡ clashes meaning earlier later };
 
+    // Every rule proves that it knows one to four modes.
     ghost lawful: { LawfulRule meaning };
 }

@@ -2,7 +2,7 @@
 ghost use Rattle.std.specs.Prelude.{◌≡◌, ◌<◌, ◌≤◌, true, length, sum_by, count_by, MatchOption, slice_index};
 ghost use Rattle.model.specs.Finding.{all, exists};
 ghost use Rattle.model.specs.State.{last_number, row_at, worker_at, mark_at, is_empty, is_on};
-ghost use Rattle.model.specs.Model.{oldest_at, lacks, queued_at};
+ghost use Rattle.model.specs.Model.{oldest_at, lacks, queued_count_of};
 ghost use Rattle.rows.specs.Known.{known};
 ghost use Rattle.rows.specs.Views.{row_of};
 ghost use Rattle.workers.specs.Views.{IsOldest};
@@ -142,7 +142,7 @@ impl Store {
 
     // How many orders no worker is open on.
     pub fn queued_count(&self) -> u16
-        ensures { result ≡ sum_by queued_at (view self.now).workers }
+        ensures { result ≡ sum_by queued_count_of (view self.now).workers }
     {
         self.workers.queued_count()
     }

@@ -2,7 +2,7 @@
 ghost use Rattle.std.specs.Prelude.{◌≡◌, ◌<◌, ◌≤◌, true, length, if◌then◌else◌, sum_by, count_by, MatchOption, slice_index};
 ghost use Rattle.model.specs.Finding.{exists};
 ghost use Rattle.model.specs.State.{worker_at, is_empty, oldest_of, is_on};
-ghost use Rattle.model.specs.Model.{queued_at};
+ghost use Rattle.model.specs.Model.{queued_count_of};
 ghost use Rattle.workers.specs.Views.{workers_of, orders_at, IsOldest, lacks_at};
 
 use super::table::Workers;
@@ -126,7 +126,7 @@ impl Workers {
     // How many orders of worker w it is not open on.
     fn queued_at(&self, w: usize) -> u16
         requires { w < 16 }
-        ensures value { result ≡ queued_at (worker_at (workers_of self.now) w) }
+        ensures value { result ≡ queued_count_of (worker_at (workers_of self.now) w) }
         ensures bound { result ≤ 16 }
     {
         let open = self.open_at(w) as usize;
@@ -139,7 +139,7 @@ impl Workers {
 
     // How many orders no worker is open on.
     pub fn queued_count(&self) -> u16
-        ensures { result ≡ sum_by queued_at (workers_of self.now) }
+        ensures { result ≡ sum_by queued_count_of (workers_of self.now) }
     {
         let mut count = 0u16;
         for w in 0..16usize {
