@@ -1,5 +1,5 @@
 -- An accepted finish decides as the book does, and keeps the invariant.
-use Rattle.std.proofs.Common.{◌≡◌, ℕ, ◌+◌, ◌-◌, ◌*◌, ◌<◌, ◌≤◌, Bool, true, false, cond, not, ◌||◌, eqb, ◌≢◌, ◌⊎◌, List, [], ◌∷◌, length, drop, set, count_by, sym, refl, ap, ◌∙◌, subst, inl, inr, arith, length-set, get_or-set_other, get_or-set_same}
+use Rattle.std.proofs.Common.{◌≡◌, ℕ, ◌+◌, ◌-◌, ◌*◌, ◌<◌, ◌≤◌, true, false, cond, not, ◌||◌, eqb, ◌≢◌, ◌⊎◌, List, [], ◌∷◌, length, drop, set, count_by, sym, refl, ap, ◌∙◌, subst, inl, inr, arith, length-set, get_or-set_other, get_or-set_same}
 use Rattle.std.specs.List.{AllByRecursion as All}
 use Rattle.std.proofs.ByRecursion.{All-weaker}
 use Rattle.std.proofs.lemmas.List.Sums.{sum_by-set}
@@ -190,36 +190,51 @@ module _ (P : Setup) (L : Lawful P) (it : ℕ → Intention) (h : History) (s : 
   }
 
   -- ⟨ marks after it ⟩
+  -- an abort leaves the marks as they were
+  marks_kept : passes P s k ≡ false → marks_after P s k ≡ s.marks
+  marks_kept t = cond-false (passes P s k) _ _ t
+
+  -- a commit sets k's
+  marks_set : passes P s k ≡ true → marks_after P s k ≡ marking k (intention_at s k).accesses s.marks
+  marks_set t = cond-true (passes P s k) _ _ t
+
   -- a mark is k's, which commits, or as it was
-  mark_cases : (b : Bool) (c m : ℕ) → c ≤ 1023 → m < 4 →
-      ((b ≡ true) × (has (it k) c m ≡ true) × (mark_at (cond b (marking k (intention_at s k).accesses s.marks) s.marks) c m ≡ k))
-      ⊎ ((b ≡ true → has (it k) c m ≡ false) × (mark_at (cond b (marking k (intention_at s k).accesses s.marks) s.marks) c m ≡ mark_at s.marks c m))
+  mark_cases : (c m : ℕ) → c ≤ 1023 → m < 4 →
+      ((passes P s k ≡ true) × (has (it k) c m ≡ true) × (mark_at (marks_after P s k) c m ≡ k))
+      ⊎ ((passes P s k ≡ true → has (it k) c m ≡ false) × (mark_at (marks_after P s k) c m ≡ mark_at s.marks c m))
   unfolding has
-  mark_cases true c m hc hm =
+  mark_cases c m hc hm =
       let e : mark_at (marking k (intention_at s k).accesses s.marks) c m ≡ cond (any (is_at c m) (it k).accesses) k (mark_at s.marks c m) = rw own_row (marking_at P L k c m (it k).accesses s.marks I.marks.size known hc hm) in
-      elim (cases_Bool (any (is_at c m) (it k).accesses)) [
-        | inl t ↦ inl (refl, t, e ∙ cond-true _ _ _ t)
-        | inr t ↦ inr ((λ _. t), e ∙ cond-false _ _ _ t)
+      elim (cases_Bool (passes P s k)) [
+        | inl b ↦
+            let f : mark_at (marks_after P s k) c m ≡ cond (any (is_at c m) (it k).accesses) k (mark_at s.marks c m) = ap (λ (ms : List ℕ). mark_at ms c m) (marks_set b) ∙ e in
+            elim (cases_Bool (any (is_at c m) (it k).accesses)) [
+              | inl t ↦ inl (b, t, f ∙ cond-true _ _ _ t)
+              | inr t ↦ inr ((λ _. t), f ∙ cond-false _ _ _ t)
+            ]
+        | inr b ↦ inr ((λ a. absurd (both_ways _ b a)), ap (λ (ms : List ℕ). mark_at ms c m) (marks_kept b))
       ]
-  mark_cases false c m hc hm = inr ((λ e. absurd (both_ways false refl e)), refl)
 
   finish_marks : Marks P it after (marks_after P s k)
   finish_marks = record {
-    size = cond_both (passes P s k) _ _ (λ (xs : List ℕ). length xs ≡ 4096) (λ _. marking-length k _ s.marks ∙ I.marks.size) (λ _. I.marks.size);
-    is = λ c m hc hm p. elim (mark_cases (passes P s k) c m hc hm) [
+    size = elim (cases_Bool (passes P s k)) [
+      | inl b ↦ ap length (marks_set b) ∙ marking-length k _ s.marks ∙ I.marks.size
+      | inr b ↦ ap length (marks_kept b) ∙ I.marks.size
+    ];
+    is = λ c m hc hm p. elim (mark_cases c m hc hm) [
       | inl (t, g, e) ↦ subst (Marked P it after c m) (sym e) (record { fin = fin_own; good = sym verdict_is ∙ t; here = g })
       | inr (_, e) ↦
           let M = I.marks.is c m hc hm (rw e at p) in
           subst (Marked P it after c m) (sym e) (record { fin = fin_up _ M.fin; good = M.good; here = M.here })
     ];
     top = λ c m j hc hm p M. elim (fin_down j M.fin) [
-      | inl e ↦ elim (mark_cases (passes P s k) c m hc hm) [
+      | inl e ↦ elim (mark_cases c m hc hm) [
         | inl (_, _, q) ↦ omega arith
         | inr (g, q) ↦
             let t : passes P s k ≡ true = verdict_is ∙ rw e at M.good in
             absurd (both_ways (has (it k) c m) (g t) (rw e at M.here))
       ]
-      | inr f ↦ elim (mark_cases (passes P s k) c m hc hm) [
+      | inr f ↦ elim (mark_cases c m hc hm) [
         | inl (_, g, q) ↦ let l : j < k = own_after j f (has_shares P.map (it k) (it j) c m m g M.here) in omega arith
         | inr (_, q) ↦ let l : j ≤ mark_at s.marks c m = I.marks.top c m j hc hm p (record { fin = f; good = M.good; here = M.here }) in omega arith
       ]

@@ -2,7 +2,7 @@
 use Rattle.std.proofs.Common.{◌≡◌, ℕ, suc, ◌+◌, ◌-◌, ◌<◌, ◌≤◌, Bool, true, false, cond, not, ◌&&◌, eqb, ◌⊎◌, List, [], ◌∷◌, length, get_or, Ok, Err, sum_by, count_by, sym, refl, ap, ◌∙◌, subst, inl, inr, arith}
 use Rattle.std.specs.List.{range_with_len, AllByRecursion as All}
 use Rattle.std.proofs.ByRecursion.{All-from_get_or}
-use Rattle.std.proofs.lemmas.Bool.{both_ways, ltb-true, le-ltb, eqb-true, eq-eqb, cases_Bool, cases_lt, and_parts, and_from, not-true, not_from_false, cond-true, cond-false}
+use Rattle.std.proofs.lemmas.Bool.{both_ways, le-ltb, eqb-true, eq-eqb, cases_Bool, cases_lt, and_parts, and_from, not-true, not_from_false, cond-true, cond-false}
 use Rattle.model.specs.declared.fault.CallFault.TheVariants.{NeedNotPosted}
 use Rattle.model.specs.Finding.{any, exists}
 use Rattle.model.specs.Words.{Intention, Setup, Lawful, worker}
@@ -15,7 +15,7 @@ use Rattle.model.proofs.Sharing.{worker_most}
 use Rattle.model.proofs.Counting.{sum_split, sum_same, sum_ones, each, sum_places, sum_front}
 use Rattle.model.proofs.Invariant.{is_open_order, Inv}
 use Rattle.model.proofs.Oldest.{queue_none, head_late, head_home, head_assigned, head_needs, head_none, head_clear, head_blocked}
-use Rattle.model.proofs.Moving.{Granted, begin_passed}
+use Rattle.model.proofs.Moving.{Granted, begin_passed, lacking_less}
 
 module _ (P : Setup) (it : ℕ → Intention) (above : List Line) (s : State) (I : Inv P it (history above) s) where
   -- ⟨ orders ⟩
@@ -182,7 +182,7 @@ module _ (P : Setup) (L : Lawful P) (above : List Line) (s : State) (I : Inv P (
   blocked : exists (lacks s (oldest_at s w)) (P.map.partitions + 1) ≡ true → Blocked P above k
   blocked t =
       let (v, l, b) = exists_some _ (P.map.partitions + 1) t in
-      let (j, before, sh, late) = head_blocked P (intention above) (history above) s I w k some oldest v (omega (arith, ltb-true _ _ b, needs_are v (omega arith))) in
+      let (j, before, sh, late) = head_blocked P (intention above) (history above) s I w k some oldest v (omega (arith, lacking_less s (oldest_at s w) v b, needs_are v (omega arith))) in
       (j, before, (omega arith, omega (arith, head_assigned P (intention above) (history above) s I w k some oldest, I.bound), unended P (intention above) above s I j late), sh)
 
   not_blocked : Granted P s w k → Blocked P above k → ⊥

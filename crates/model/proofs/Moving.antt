@@ -4,13 +4,14 @@ use Rattle.std.specs.List.{AllByRecursion as All}
 use Rattle.std.proofs.ByRecursion.{All-weaker}
 use Rattle.std.proofs.lemmas.List.{get_or_past}
 use Rattle.std.proofs.lemmas.List.Sums.{sum_by-set}
+use Rattle.std.proofs.lemmas.Bool.Decides.{nat_tests}
 use Rattle.std.proofs.lemmas.Bool.{both_ways, ltb-false, eqb-true, eq-eqb, ne_eqb, le-leb, cases_eq, cases_lt, cases_Bool, and_parts, and_from, or_cases, or_left, or_right, cond-true, cond-false}
 use Rattle.model.specs.declared.fault.CallFault.TheVariants.{UnknownWorker, WorkerOpen, NoOrder, NeedNotPosted}
 use Rattle.model.specs.Finding.{any, exists}
 use Rattle.model.specs.Words.{Intention, Setup, Lawful, worker}
 use Rattle.model.specs.Sheets.{History, entered, pairs}
 use Rattle.model.specs.Sheets.Event.{granted}
-use Rattle.model.specs.State.{Status, Worker, State, no_worker, worker_at, is_empty, oldest_of, is_on, on_number, with_worker, in_status, status_at, posted_at, orders_at}
+use Rattle.model.specs.State.{Status, Order, Worker, State, no_worker, worker_at, is_empty, oldest_of, is_on, on_number, with_worker, in_status, status_at, posted_at, orders_at}
 use Rattle.model.specs.Model.{oldest_at, lacks, begin_answer, begun}
 use Rattle.model.proofs.Found.{exists_from, passed, ok_same, put, put_same, put_other, put_both, put_keeps, set-put}
 use Rattle.model.proofs.Counting.{sum_split}
@@ -29,6 +30,14 @@ pub record Granted (P : Setup) (s : State) (w k : ℕ) : Type 0 where
   pub oldest : (oldest_of (orders_at s w)).number ≡ k
   pub ready : (v : ℕ) → v ≤ P.map.partitions → get_or (oldest_at s w).needs v 0 ≤ posted_at s v
 
+-- where worker v lacks nothing that the order needs, it has posted that need or more
+pub not_lacking : (s : State) (o : Order) (v : ℕ) → lacks s o v ≡ false → get_or o.needs v 0 ≤ posted_at s v
+not_lacking s o v t = grind (arith, nat_tests)
+
+-- and where it lacks something, it has posted less
+pub lacking_less : (s : State) (o : Order) (v : ℕ) → lacks s o v ≡ true → posted_at s v < get_or o.needs v 0
+lacking_less s o v t = grind (arith, nat_tests)
+
 pub begin_passed : (P : Setup) (s : State) (w : ℕ) (ticket : ℕ × ℕ) → Ok ticket ≡ begin_answer P s w → Granted P s w ticket.1
 begin_passed P s w ticket e =
     let (c1, e1) = passed (ltb P.map.partitions w) (UnknownWorker w) _ ticket e in
@@ -42,7 +51,7 @@ begin_passed P s w ticket e =
       oldest = sym (ap (λ (t : ℕ × ℕ). t.1) (ok_same ticket (w, (oldest_at s w).number) e4));
       ready = λ v l. elim (cases_Bool (lacks s (oldest_at s w) v)) [
         | inl t ↦ absurd (both_ways _ c4 (exists_from (lacks s (oldest_at s w)) (P.map.partitions + 1) v (omega arith) t))
-        | inr t ↦ ltb-false _ _ t
+        | inr t ↦ not_lacking s (oldest_at s w) v t
       ];
     }
 
