@@ -1,23 +1,32 @@
 // What every clash rule shows of itself.
-ghost use Rattle.std.specs.Prelude.{◌≡◌};
+ghost use Rattle.std.specs.Prelude.{◌≡◌, ℕ};
 ghost use Rattle.terms.specs.Rules.{RuleMeaning, LawfulRule, clashes};
 
 pub trait ClashRule {
-    // How many modes the rule knows.
+    // How many modes the rule knows: they are the numbers below this one.
     const MODES: u8;
+
+    // The same count, for clauses and laws.
+    ghost MODES: { ℕ };
 
     // The rule's meaning, which code above the rule is proved against. It belongs to the type and not to a value,
     // so asking cannot change it.
     ghost meaning: { RuleMeaning };
 
-    // How many modes the rule knows, for code that is generic over the rule: what it answers is the meaning's count.
-    fn mode_count(&self) -> u8
-        ensures { result ≡ meaning.modes };
+    // Whether an earlier mode and a later one clash by the rule's relation, which means something for modes that it knows.
+    fn relates(&self, earlier: u8, later: u8) -> bool
+        ensures { result ≡ meaning.relation earlier later };
 
     // Whether an earlier mode and a later one clash; a mode that the rule does not know clashes with every mode.
     fn clash(&self, earlier: u8, later: u8) -> bool
-        ensures { result ≡ clashes meaning earlier later };
+        ensures { result ≡ clashes meaning earlier later }
+    {
+        earlier >= Self::MODES || later >= Self::MODES || self.relates(earlier, later)
+    }
 
-    // Every rule proves that it knows one to four modes.
+    // Every rule proves that its constant is the count of its meaning.
+    ghost counted: { MODES ≡ meaning.modes };
+
+    // Every rule proves that it knows one to four modes. It stays with each rule, since only there its count is a number.
     ghost lawful: { LawfulRule meaning };
 }
