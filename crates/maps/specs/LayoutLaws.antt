@@ -3,7 +3,7 @@ use Rattle.std.proofs.Common.{◌≡◌, ℕ, ◌≤◌, List, arith}
 use Rattle.std.proofs.lemmas.Bool.Decides.{nat_tests}
 use Rattle.terms.specs.Maps.{LawfulMap}
 use Rattle.terms.specs.Numbers.{within}
-use Rattle.terms.proofs.Leading.{leading_at}
+use Rattle.std.proofs.lemmas.List.Sums.{prefix_len_passes}
 use Rattle.maps.specs.Layouts.{residues, listed, good_entries_of}
 
 -- a remainder by n is below n
@@ -21,7 +21,7 @@ pub listed_lawful : (n : ℕ) (table : List ℕ) → 1 ≤ n → n ≤ 15 → go
 listed_lawful n table some few good = record {
   some = some;
   few = few;
-  first = λ cell h. let e = leading_at (within 1 n) table cell 0 (omega arith) in grind (arith, nat_tests);
-  last = λ cell h. let e = leading_at (within 1 n) table cell 0 (omega arith) in grind (arith, nat_tests);
+  first = λ cell h. let e = prefix_len_passes (within 1 n) table cell 0 (omega arith) in grind (arith, nat_tests);
+  last = λ cell h. let e = prefix_len_passes (within 1 n) table cell 0 (omega arith) in grind (arith, nat_tests);
   none = λ cell h. grind (arith, nat_tests);
 }

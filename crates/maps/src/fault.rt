@@ -29,7 +29,7 @@ impl MapFault {
         ensures { result ∷ [] ≡ (map_refusal self).returned }
     {
         match self {
-            MapFault::PartitionCount(n) => n as usize,
+            MapFault::PartitionCount(n) => usize::from(n),
             MapFault::TableLength(length) => length,
             MapFault::Entry(index) => index,
         }

@@ -4,6 +4,7 @@
 mod fault;
 mod listed;
 mod map;
+mod partitions;
 mod residue;
 
 pub use fault::MapFault;
