@@ -1,9 +1,9 @@
--- The two layouts are within the laws of a cell map.
+-- The two layouts are within the laws of a cell map. The proofs stand here, where the laws of an impl can name them.
 use Rattle.std.proofs.Common.{◌≡◌, ℕ, ◌≤◌, List, arith}
 use Rattle.std.proofs.lemmas.Bool.Decides.{nat_tests}
+use Rattle.std.proofs.lemmas.List.Sums.{prefix_len_passes}
 use Rattle.terms.specs.Maps.{LawfulMap}
 use Rattle.terms.specs.Numbers.{within}
-use Rattle.std.proofs.lemmas.List.Sums.{prefix_len_passes}
 use Rattle.maps.specs.Layouts.{residues, listed, good_entries_of}
 
 -- a remainder by n is below n
