@@ -2,6 +2,8 @@
 ghost use Rattle.std.specs.Prelude.{◌≡◌};
 ghost use Rattle.model.specs.Faults.{call_refusal, one_or_two};
 
+use terms::LOG_LENGTH;
+
 #[derive(Clone, Copy, Debug, PartialEq, Eq)]
 pub enum CallFault {
     // Cause 11: an intention has 1 to 8 accesses, and not this many.
@@ -12,7 +14,7 @@ pub enum CallFault {
     UnknownMode(usize),
     // Cause 14: the first access whose cell is above 1,023 has this index.
     UnknownCell(usize),
-    // Cause 15: 512 intentions are appended, which comes back.
+    // Cause 15: as many intentions are appended as a log holds, 512, which comes back.
     LogFull,
     // Cause 16: every number up to the last, which is this one, is assigned.
     NoneUnassigned(u16),
@@ -65,21 +67,21 @@ impl CallFault {
         ensures { one_or_two result ≡ (call_refusal self).returned }
     {
         match self {
-            CallFault::AccessCount(count) => (count, None),
-            CallFault::SnapshotAhead(last) => (last as usize, None),
-            CallFault::UnknownMode(index) => (index, None),
-            CallFault::UnknownCell(index) => (index, None),
-            CallFault::LogFull => (512, None),
-            CallFault::NoneUnassigned(last) => (last as usize, None),
-            CallFault::WorkerFull(worker) => (worker as usize, None),
-            CallFault::UnknownWorker(worker) => (worker as usize, None),
-            CallFault::WorkerOpen(number) => (number as usize, None),
-            CallFault::NoOrder(worker) => (worker as usize, None),
-            CallFault::NeedNotPosted(number) => (number as usize, None),
-            CallFault::NotParked(worker) => (worker as usize, None),
-            CallFault::NotHeld(worker) => (worker as usize, None),
-            CallFault::TicketUnfit(worker, number) => (worker as usize, Some(number)),
-            CallFault::UnknownNumber(last) => (last as usize, None),
+            CallFault::AccessCount(value)
+            | CallFault::UnknownMode(value)
+            | CallFault::UnknownCell(value) => (value, None),
+            CallFault::SnapshotAhead(number)
+            | CallFault::NoneUnassigned(number)
+            | CallFault::WorkerOpen(number)
+            | CallFault::NeedNotPosted(number)
+            | CallFault::UnknownNumber(number) => (usize::from(number), None),
+            CallFault::WorkerFull(worker)
+            | CallFault::UnknownWorker(worker)
+            | CallFault::NoOrder(worker)
+            | CallFault::NotParked(worker)
+            | CallFault::NotHeld(worker) => (usize::from(worker), None),
+            CallFault::LogFull => (LOG_LENGTH, None),
+            CallFault::TicketUnfit(worker, number) => (usize::from(worker), Some(number)),
         }
     }
 }

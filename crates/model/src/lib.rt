@@ -16,23 +16,19 @@ pub use tally::Tally;
 pub use verdict::{Clash, Outcome, Verdict};
 
 // The law holds of every sheet of calls, for every rule and every map within their laws. Only the contract matters.
-pub fn certifier_stands() -> u8
+#[tactic(auto, using(crate::proofs::Stands::certifier_stands_lem))]
+pub fn certifier_stands()
     ensures { CertifierStands }
-{
-    0
-}
+{}
 
 // Two units with the same rule decide every intention alike, however many partitions each has and in whatever order its
 // workers run. Only the contract matters.
-pub fn units_agree() -> u8
+pub fn units_agree()
     ensures { UnitsAgree }
-{
-    0
-}
+{}
 
 // The worked cases of needs and verdicts are as the definitions have them. Only the contract matters.
-pub fn cases_stand() -> u8
+#[tactic(auto, using(crate::proofs::Worked::worked_cases))]
+pub fn cases_stand()
     ensures { WorkedCases }
-{
-    0
-}
+{}

@@ -1,9 +1,10 @@
 // What becomes of an intention.
 
 // What is known of an intention by its number.
-#[derive(Clone, Copy, Debug, PartialEq, Eq)]
+#[derive(Clone, Copy, Debug, Default, PartialEq, Eq)]
 pub enum Verdict {
     // It is not finished.
+    #[default]
     Undecided,
     Committed,
     Aborted,

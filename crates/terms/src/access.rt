@@ -19,6 +19,9 @@ pub const LAST_CELL: u16 = CELLS as u16 - 1;
 // Cells are spread over at most this many partitions.
 pub const MOST_PARTITIONS: u8 = 15;
 
+// A log holds at most this many intentions.
+pub const LOG_LENGTH: usize = 512;
+
 // One access of an intention: how it touched (mode) which setting (cell).
 // A frame may hold any two numbers; which modes and cells are in range is for the certifier to say.
 #[derive(Clone, Copy, Debug, Default, PartialEq, Eq)]

@@ -3,4 +3,4 @@
 
 mod access;
 
-pub use access::{ADD, Access, CELLS, LAST_CELL, MOST_PARTITIONS, READ, WRITE};
+pub use access::{ADD, Access, CELLS, LAST_CELL, LOG_LENGTH, MOST_PARTITIONS, READ, WRITE};
