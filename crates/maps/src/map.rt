@@ -10,7 +10,7 @@ pub trait CellMap {
     fn partitions(&self) -> u8
         ensures { result ≡ (meaning self.now).partitions };
 
-    // The partition of a cell, or 0 where the cell is above 1,023.
+    // The partition of a cell, or 0 where the cell is above 1,023: a map's meaning writes no partition as 0, so this is no Option.
     fn partition_of(&self, cell: u16) -> u8
         ensures { result ≡ (meaning self.now).partition cell };
 

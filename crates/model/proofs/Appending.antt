@@ -1,9 +1,11 @@
 -- An accepted append keeps the invariant.
 use Rattle.std.proofs.Common.{◌≡◌, ℕ, suc, ◌+◌, ◌-◌, ◌<◌, ◌≤◌, false, not, eqb, ltb, leb, List, [], ◌∷◌, ◌++◌, length, Ok, sym, refl, ap, ◌∙◌, subst, inl, inr, arith, length-append}
 use Rattle.std.specs.List.{AllByRecursion as All}
-use Rattle.std.proofs.ByRecursion.{All-weaker}
+use Rattle.std.proofs.ByRecursion.{All-from_get_or}
 use Rattle.std.proofs.lemmas.List.{get_or_append_left, get_or_at}
-use Rattle.std.proofs.lemmas.Bool.{ltb-true, ltb-false, leb-true, eq-eqb, ne_eqb, cases_eq, cases_Bool, cond-true, cond-false}
+use Rattle.std.proofs.lemmas.List.Sums.{prefix_len_passes}
+use Rattle.std.proofs.lemmas.Bool.{ltb-true, ltb-false, leb-true, eq-eqb, ne_eqb, cases_eq, cond-true, cond-false}
+use Rattle.terms.specs.Accesses.{access}
 use Rattle.terms.specs.Numbers.{within}
 use Rattle.model.specs.declared.fault.CallFault.TheVariants.{AccessCount, SnapshotAhead, UnknownMode, UnknownCell, LogFull}
 use Rattle.model.specs.declared.verdict.Verdict.TheVariants.{Undecided}
@@ -13,10 +15,10 @@ use Rattle.model.specs.Sheets.{History, entered, numbered}
 use Rattle.model.specs.Sheets.Event.{appended}
 use Rattle.model.specs.State.{Row, State, no_row, row_at, last_number}
 use Rattle.model.specs.Model.{known_modes_of, known_cells_of, append_answer, append_leaves}
-use Rattle.model.proofs.Found.{leading_all, all_both, passed, ok_same}
+use Rattle.model.proofs.Found.{passed, ok_same}
 use Rattle.model.proofs.Sharing.{Known}
 use Rattle.model.proofs.Invariant.{Agrees, Inv}
-use Rattle.model.proofs.Oldest.{fin_most}
+use Rattle.model.proofs.Oldest.{unassigned_unended}
 
 pub numbered_new : (xs : List (ℕ × Intention)) (k : ℕ) (x : Intention) → numbered ((k, x) ∷ xs) k ≡ x
 unfolding numbered
@@ -35,7 +37,10 @@ append_passed P s snapshot accesses k e =
     let (c4, e4) = passed (ltb (known_cells_of accesses) (length accesses)) (UnknownCell (known_cells_of accesses)) _ k e3 in
     let (_, e5) = passed (leb 512 (length s.rows)) LogFull _ k e4 in (
       ok_same k (last_number s + 1) e5,
-      All-weaker _ _ (λ a f. (ltb-true _ _ f.0, leb-true _ _ f.1)) accesses (all_both _ _ accesses (leading_all (λ a. ltb a.mode P.rule.modes) accesses (ltb-false _ _ c3)) (leading_all (λ a. leb a.cell 1023) accesses (ltb-false _ _ c4))),
+      All-from_get_or (Known P) accesses (access 0 0) (λ i l. (
+        ltb-true _ _ (prefix_len_passes (λ a. ltb a.mode P.rule.modes) accesses i (access 0 0) (omega (arith, ltb-false _ _ c3))),
+        leb-true _ _ (prefix_len_passes (λ a. leb a.cell 1023) accesses i (access 0 0) (omega (arith, ltb-false _ _ c4))),
+      )),
     )
 
 module _ (P : Setup) (it : ℕ → Intention) (h : History) (s : State) (I : Inv P it h s) where
@@ -50,7 +55,7 @@ module _ (P : Setup) (it : ℕ → Intention) (h : History) (s : State) (I : Inv
       let new : x ≡ it k = sym (numbered_new h.appended k x) ∙ agree k (omega arith) in
       let old_row : (j : ℕ) → 0 < j → j ≤ length h.appended → row_at (s.rows ++ row ∷ []) j ≡ row_at s.rows j = λ j p l. get_or_append_left s.rows (row ∷ []) no_row (j - 1) (omega (arith, I.rows.size)) in
       let new_row : (j : ℕ) → j ≡ k → row_at (s.rows ++ row ∷ []) j ≡ row = λ j q. get_or_at s.rows row [] no_row (j - 1) (omega (arith, I.rows.size)) in
-      let unfinished : (j : ℕ) → j ≡ k → any (eqb j) h.finished ≡ false = λ j q. elim (cases_Bool (any (eqb j) h.finished)) [ inl t ↦ absurd (omega (arith, fin_most P it h s I j (I.told.done j t).1, I.bound)) | inr t ↦ t ] in
+      let unfinished : (j : ℕ) → j ≡ k → any (eqb j) h.finished ≡ false = λ j q. unassigned_unended P it h s I j (omega (arith, I.bound)) in
       record {
         agree = agree;
         assigned = I.assigned;

@@ -2,7 +2,7 @@
 use Rattle.std.proofs.Common.{◌≡◌, ℕ, suc, ◌+◌, ◌<◌, ◌≤◌, Bool, true, false, cond, ◌&&◌, eqb, leb, List, [], ◌∷◌, ◌++◌, length, get_or, set, Ok, sym, refl, ap, ◌∙◌, subst, inl, inr, arith, length-append, length-set}
 use Rattle.std.proofs.lemmas.List.FromFn.{length-map-range_with_len, get_or-map-range_with_len}
 use Rattle.std.proofs.lemmas.List.Sums.{sum_by-set, sum_by-cons}
-use Rattle.std.proofs.lemmas.Bool.{both_ways, leb-false, eqb-true, eqb-false, eq-eqb, ne_eqb, le-leb, lt-leb, cases_eq, cases_Bool, cases_lt, and_parts, and_from, or_cases, or_left, or_right, cond-true, cond-false, cond_both}
+use Rattle.std.proofs.lemmas.Bool.{both_ways, false_from_ne_true, leb-false, eqb-true, eqb-false, eq-eqb, ne_eqb, le-leb, lt-leb, cases_eq, cases_Bool, cases_lt, and_parts, and_from, or_cases, or_left, or_right, cond-true, cond-false, cond_both}
 use Rattle.terms.specs.Maps.{MapMeaning}
 use Rattle.model.specs.declared.fault.CallFault.TheVariants.{NoneUnassigned, WorkerFull}
 use Rattle.model.specs.Finding.{any, last}
@@ -12,11 +12,11 @@ use Rattle.model.specs.Sheets.{History, entered, pairs}
 use Rattle.model.specs.Sheets.Event.{assigned}
 use Rattle.model.specs.State.{Order, Worker, State, no_worker, last_number, worker_at, is_empty, oldest_of, is_on, on_number, status_at, posted_at, orders_at}
 use Rattle.model.specs.Model.{next_number, next_intention, next_worker, assign_answer, wanted, next_order, pushed, joints_after_of, plains_after_of, assign_leaves}
-use Rattle.model.proofs.Found.{at_set, passed, ok_same, put, put_both, put_keeps}
+use Rattle.model.proofs.Found.{at_set, passed, ok_same, put, put_both}
 use Rattle.model.proofs.Sharing.{worker_most}
-use Rattle.model.proofs.Invariant.{posts, Fin, Clear, RightNeeds, Queue, Opened, Staff, Marks, Lasts, Told, ToldOf, is_open_order, Counts, Inv}
-use Rattle.model.proofs.Oldest.{queue_push, queue_skip, fin_most, head_assigned}
-use Rattle.model.proofs.Moving.{pairs-cons, seen, posted_same}
+use Rattle.model.proofs.Invariant.{RightNeeds, Queue, Staff, Marks, Lasts, Told, ToldOf, is_open_order, Counts, Inv}
+use Rattle.model.proofs.Oldest.{queue_push, queue_skip, fin_most, unassigned_unended, head_assigned}
+use Rattle.model.proofs.Moving.{pairs-cons, staff_put, told_put, seen, posted_same}
 
 -- what an accepted assign has shown
 pub assign_passed : (P : Setup) (s : State) (x : ℕ × ℕ) → Ok x ≡ assign_answer P s → (s.assigned < last_number s) × (x ≡ (next_number s, next_worker P s))
@@ -120,23 +120,17 @@ module _ (P : Setup) (L : Lawful P) (it : ℕ → Intention) (h : History) (s : 
   -- ⟨ the workers ⟩
   assign_staff : Staff P it (next_number s) now
   assign_staff =
-      let pk = put_keeps (λ (y : Worker). y.posted) at w x refl in
       let home_next : worker m (it (suc s.assigned)) ≡ w = ap (λ n. worker m (it n)) (sym next) ∙ sym home in
-      record {
-        queues = λ u. subst (λ n. Queue P it u (put at w x u).posted (put at w x u).orders n) (sym next)
-            (put_both at w x u (λ y. Queue P it u y.posted y.orders (suc s.assigned))
-            (λ e. rw e (queue_push P it w _ _ _ (next_order m s) (I.staff.queues w) next (sym home) right))
-            (λ e. queue_skip P it u _ _ _ (I.staff.queues u) (λ z. e (sym z ∙ home_next))));
-        opens = λ u. subst (λ f. is_on (put at w x u).status ≡ true → Opened P it f (put at w x u)) (sym pk)
-            (put_both at w x u (λ y. is_on y.status ≡ true → Opened P it (posts at) y)
-            (λ e o. let O = I.staff.opens w o in record {
-              some = push_some (at w).orders (next_order m s);
-              oldest = ap (λ (y : Order). y.number) (push_oldest (at w).orders (next_order m s) O.some) ∙ O.oldest;
-              clear = O.clear;
-            })
-            (λ e. I.staff.opens u));
-        clear = subst (λ f. (j : ℕ) → Fin P it f j → Clear P it f j) (sym pk) I.staff.clear;
-      }
+      staff_put P it at w x refl s.assigned (next_number s) I.staff
+      (λ u. subst (λ n. Queue P it u (put at w x u).posted (put at w x u).orders n) (sym next)
+      (put_both at w x u (λ y. Queue P it u y.posted y.orders (suc s.assigned))
+      (λ e. rw e (queue_push P it w _ _ _ (next_order m s) (I.staff.queues w) next (sym home) right))
+      (λ e. queue_skip P it u _ _ _ (I.staff.queues u) (λ z. e (sym z ∙ home_next)))))
+      (λ o. let O = I.staff.opens w o in record {
+        some = push_some (at w).orders (next_order m s);
+        oldest = ap (λ (y : Order). y.number) (push_oldest (at w).orders (next_order m s) O.some) ∙ O.oldest;
+        clear = O.clear;
+      })
 
   -- ⟨ what the lines say ⟩
   told_assigned : Told P it (next_number s) ((next_worker P s, next_number s) ∷ h.assigned) h.granted h.finished (posted_at s) (λ u. is_on (status_at s u)) (λ u. on_number (status_at s u))
@@ -159,27 +153,17 @@ module _ (P : Setup) (L : Lawful P) (it : ℕ → Intention) (h : History) (s : 
   }
 
   assign_told : ToldOf P it (next_number s) ((next_worker P s, next_number s) ∷ h.assigned) h.granted h.finished now
-  assign_told =
-      let asg = (w, k) ∷ h.assigned in
-      subst (λ f. Told P it k asg h.granted h.finished f (λ u. is_on (put at w x u).status) (λ u. on_number (put at w x u).status)) (sym (put_keeps (λ (y : Worker). y.posted) at w x refl))
-      (subst (λ f. Told P it k asg h.granted h.finished (posts at) f (λ u. on_number (put at w x u).status)) (sym (put_keeps (λ (y : Worker). is_on y.status) at w x refl))
-      (subst (λ f. Told P it k asg h.granted h.finished (posts at) (λ u. is_on (at u).status) f) (sym (put_keeps (λ (y : Worker). on_number y.status) at w x refl)) told_assigned))
+  assign_told = told_put P it at w x refl k ((w, k) ∷ h.assigned) h.granted h.finished refl refl told_assigned
 
   -- ⟨ the counts ⟩
-  fin_none : Fin P it (posted_at s) (next_number s) → ⊥
-  fin_none f = omega (arith, fin_most P it h s I k f)
-
   undone : any (eqb (next_number s)) h.finished ≡ false
-  undone = elim (cases_Bool (any (eqb k) h.finished)) [ inl t ↦ absurd (fin_none (I.told.done k t).1) | inr t ↦ t ]
+  undone = unassigned_unended P it h s I k (omega arith)
 
   ungranted : pairs (next_worker P s) (next_number s) h.granted ≡ false
-  ungranted = elim (cases_Bool (pairs w k h.granted)) [
-    | inl t ↦ absurd (elim (I.told.began w k t).1 [
-      | inl f ↦ fin_none f
-      | inr (o, n) ↦ let O = I.staff.opens w o in omega (arith, n, head_assigned P it h s I w (on_number (at w).status) O.some O.oldest)
-    ])
-    | inr t ↦ t
-  ]
+  ungranted = false_from_ne_true _ (λ t. elim (I.told.began w k t).1 [
+    | inl f ↦ omega (arith, fin_most P it h s I k f)
+    | inr (o, n) ↦ let O = I.staff.opens w o in omega (arith, n, head_assigned P it h s I w (on_number (at w).status) O.some O.oldest)
+  ])
 
   assign_counts : Counts P it ((next_worker P s, next_number s) ∷ h.assigned) h.granted h.finished (set s.workers (next_worker P s) (pushed (next_order P.map s) (worker_at s.workers (next_worker P s))))
   assign_counts =

@@ -1,4 +1,5 @@
 -- A call's own answer and state continue every sheet that leads to the state it is made at.
+-- It is for the calls of a certifier to cite, so nothing here does.
 use Rattle.std.proofs.Common.{◌≡◌, [], ◌∷◌, ap, ◌∙◌, subst}
 use Rattle.model.specs.Words.{Setup, Lawful}
 use Rattle.model.specs.Sheets.{Call, Answer}

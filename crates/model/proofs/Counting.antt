@@ -17,10 +17,6 @@ module _ {X : Type 0} where
   sum_ones [] = refl
   sum_ones (x ∷ xs) = omega (arith, sum_by-cons (λ _. 1) x xs, sum_ones xs)
 
-  pub each : (Q : X → Type 0) → ((x : X) → Q x) → (xs : List X) → All Q xs
-  each Q f [] = tt
-  each Q f (x ∷ xs) = (f x, each Q f xs)
-
   pub sum-map_by : {Y : Type 0} (f : X → ℕ) (g : Y → X) (ys : List Y) → sum_by f (map g ys) ≡ sum_by (λ y. f (g y)) ys
   sum-map_by f g [] = refl
   sum-map_by f g (y ∷ ys) = omega (arith, sum_by-cons f (g y) (map g ys), sum_by-cons (λ y. f (g y)) y ys, sum-map_by f g ys)

@@ -1,9 +1,9 @@
 -- An accepted finish decides as the book does, and keeps the invariant.
-use Rattle.std.proofs.Common.{◌≡◌, ℕ, ◌+◌, ◌-◌, ◌*◌, ◌<◌, ◌≤◌, true, false, cond, not, ◌||◌, eqb, ◌≢◌, ◌⊎◌, List, [], ◌∷◌, length, drop, set, count_by, sym, refl, ap, ◌∙◌, subst, inl, inr, arith, length-set, get_or-set_other, get_or-set_same}
+use Rattle.std.proofs.Common.{◌≡◌, ℕ, ◌+◌, ◌-◌, ◌*◌, ◌<◌, ◌≤◌, true, false, cond, not, ◌||◌, eqb, ◌≢◌, ◌⊎◌, List, [], ◌∷◌, length, drop, set, sym, refl, ap, ◌∙◌, subst, inl, inr, arith, length-set, get_or-set_other, get_or-set_same}
 use Rattle.std.specs.List.{AllByRecursion as All}
 use Rattle.std.proofs.ByRecursion.{All-weaker}
 use Rattle.std.proofs.lemmas.List.Sums.{sum_by-set}
-use Rattle.std.proofs.lemmas.Bool.{both_ways, ltb-true, lt-ltb, eqb-true, eqb-false, eq-eqb, ne_eqb, le-leb, cases_eq, cases_Bool, cases_lt, and_parts, and_from, or_cases, or_parts, not-true, not-false, cond-true, cond-false, cond_both}
+use Rattle.std.proofs.lemmas.Bool.{both_ways, ltb-true, lt-ltb, eqb-true, eqb-false, eq-eqb, ne_eqb, cases_eq, cases_Bool, cases_lt, and_parts, and_from, or_cases, or_parts, not-true, not-false, cond-true, cond-false, cond_both}
 use Rattle.terms.specs.Rules.{clashes}
 use Rattle.model.specs.declared.status.Status.TheVariants.{Idle, Held, Parked}
 use Rattle.model.specs.declared.verdict.Verdict.TheVariants.{Undecided}
@@ -19,7 +19,7 @@ use Rattle.model.proofs.Sharing.{Known, is_at_lem, at_itself, has_known, has_sha
 use Rattle.model.proofs.Booked.{book_aborted, book_committed}
 use Rattle.model.proofs.Counting.{sum_split}
 use Rattle.model.proofs.Invariant.{posts, Fin, Clear, Queue, Marked, Opened, Rows, Staff, Marks, ToldOf, is_open_order, Counts, Inv}
-use Rattle.model.proofs.Oldest.{head_late, head_home, head_rest, head_assigned, head_first}
+use Rattle.model.proofs.Oldest.{head_late, head_home, head_rest, head_assigned, head_unfinished, head_undone, head_once, head_first}
 use Rattle.model.proofs.Moving.{seen, on_low}
 
 pub held_on : (k : ℕ) (x : Status) → is_held_on k x ≡ true → (is_on x ≡ true) × (on_number x ≡ k)
@@ -103,7 +103,7 @@ module _ (P : Setup) (L : Lawful P) (it : ℕ → Intention) (h : History) (s : 
   known = I.rows.known k own_positive own_there
 
   unfinished : Fin P it (posted_at s) k → ⊥
-  unfinished f = let z : k ≤ posted_at s w = rw home at f in omega (arith, late)
+  unfinished = head_unfinished P it h s I w k some oldest
 
   -- a finished number that shares a partition with k is below it
   pub own_after : (j : ℕ) → Fin P it (posted_at s) j → Shares P.map (it k) (it j) → j < k
@@ -284,7 +284,7 @@ module _ (P : Setup) (L : Lawful P) (it : ℕ → Intention) (h : History) (s : 
   }
 
   undone : any (eqb k) h.finished ≡ false
-  undone = elim (cases_Bool (any (eqb k) h.finished)) [ inl t ↦ absurd (unfinished (I.told.done k t).1) | inr t ↦ t ]
+  undone = head_undone P it h s I w k some oldest
 
   was_granted : pairs w k h.granted ≡ true
   was_granted = subst (λ n. pairs w n h.granted ≡ true) number (I.told.begun w on)
@@ -309,7 +309,7 @@ module _ (P : Setup) (L : Lawful P) (it : ℕ → Intention) (h : History) (s : 
   finish_counts =
       let C = I.counts in
       let b : w < length s.workers = omega (arith, I.sixteen, low) in
-      let one : count_by (λ (y : ℕ × ℕ). eqb k y.1) h.assigned ≡ 1 = C.once k own_positive ∙ cond-true _ _ _ (le-leb k (length h.assigned) (omega (arith, head_assigned P it h s I w k some oldest, I.assigned))) in
+      let one = head_once P it h s I w k some oldest in
       record {
         load = omega (arith, C.load, sum_by-set (λ (y : Worker). length y.orders) s.workers w x no_worker b, drop_one (at w).orders some);
         once = C.once;

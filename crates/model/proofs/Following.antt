@@ -1,8 +1,8 @@
 -- Every sheet that the calls give leads to a state with the invariant.
-use Rattle.std.proofs.Common.{◌≡◌, ℕ, zero, suc, ◌+◌, ◌*◌, true, false, cond, not, ltb, List, [], ◌∷◌, ◌++◌, length, replicate, Ok, Err, sum_by, sym, refl, ap, ◌∙◌, subst, inl, inr, arith, length-append, length-set}
+use Rattle.std.proofs.Common.{◌≡◌, ℕ, ◌+◌, ◌*◌, true, false, cond, not, ltb, List, [], ◌∷◌, ◌++◌, length, replicate, Ok, Err, Result, sym, refl, ap, ◌∙◌, subst, inl, inr, arith, length-append, length-set}
 use mathlib.Core.Path.{fun_ext}
 use Rattle.std.proofs.lemmas.List.{get_or-replicate, get_or_past, length-replicate}
-use Rattle.std.proofs.lemmas.List.Sums.{sum_by-cons}
+use Rattle.std.proofs.lemmas.List.Folds.{sum_by-replicate}
 use Rattle.std.proofs.lemmas.Bool.{both_ways, lt-leb, cases_lt, cond-false, not-false}
 use Rattle.model.specs.Faults.{CallFault}
 use Rattle.model.specs.declared.fault.CallFault.TheVariants.{UnknownWorker, NotParked, NotHeld, TicketUnfit}
@@ -16,8 +16,8 @@ use Rattle.model.specs.Sheets.Line.{line}
 use Rattle.model.specs.Sheets.Call.{append, assign, begin, park, resume, recall, finish, verdict, need, tally}
 use Rattle.model.specs.Sheets.Event.{assigned}
 use Rattle.model.specs.Sheets.{entered}
-use Rattle.model.specs.State.{Worker, Status, State, no_worker, no_workers, no_marks_yet, no_numbers_yet, fresh, worker_at, is_on, on_number, is_held, is_parked, with_worker, in_status, status_at}
-use Rattle.model.specs.Model.{kept, append_leaves, assign_leaves, begun, fits, park_answer, resume_answer, recall_answer, passes, finish_answer, finish_leaves, verdict_of, Gives, after, call_of, state_of, GivesLine, Sheet}
+use Rattle.model.specs.State.{Worker, Status, State, no_worker, no_workers, no_marks_yet, no_numbers_yet, fresh, worker_at, is_on, on_number, is_held, is_parked, last_number, status_at}
+use Rattle.model.specs.Model.{kept, assign_leaves, fits, park_answer, resume_answer, recall_answer, passes, finish_answer, verdict_of, Gives, after, call_of, state_of, GivesLine, Sheet}
 use Rattle.model.proofs.Found.{last_none, passed, ok_same}
 use Rattle.model.proofs.Invariant.{Agrees, posts, Staff, Marks, ToldOf, Inv}
 use Rattle.model.proofs.Appending.{numbered_old, append_passed, keep_append}
@@ -26,10 +26,6 @@ use Rattle.model.proofs.Assigning.{assign_passed, keep_assign}
 use Rattle.model.proofs.Finishing.{held_on, keep_finish}
 
 -- ⟨ the start ⟩
-
-sum_none : {X : Type 0} (f : X → ℕ) (x : X) (n : ℕ) → f x ≡ 0 → sum_by f (replicate n x) ≡ 0
-sum_none f x zero e = refl
-sum_none f x (suc n) e = omega (arith, sum_by-cons f x (replicate n x), e, sum_none f x n e)
 
 all_idle : worker_at no_workers ≡ (λ _. no_worker)
 unfolding no_workers
@@ -69,25 +65,31 @@ inv_fresh P it agree = record {
     begun = λ w o. absurd (both_ways false refl o);
   });
   counts = record {
-    load = omega (arith, sum_none (λ (x : Worker). length x.orders) no_worker 16 refl);
+    load = omega (arith, sum_by-replicate (λ (x : Worker). length x.orders) 16 no_worker);
     once = λ k p. sym (cond-false _ _ _ (lt-leb k 0 p));
     homes = tt;
     done = refl;
-    opened = sym (sum_none (λ (x : Worker). cond (is_on x.status) 1 0) no_worker 16 refl);
+    opened = omega (arith, sum_by-replicate (λ (x : Worker). cond (is_on x.status) 1 0) 16 no_worker);
   };
 }
 
--- ⟨ a refusal ⟩
+-- ⟨ what an answer leaves ⟩
 
--- leaves the state as it was
+-- a refusal leaves the state as it was, and an accepted answer the state that belongs to it
+kept_err : {A : Type 0} (r : Result A CallFault) (s : State) (leaves : A → State) (fault : CallFault) → Err fault ≡ r → kept r s leaves ≡ s
+kept_err r s leaves fault e = subst (λ r. kept r s leaves ≡ s) e refl
+
+kept_ok : {A : Type 0} (r : Result A CallFault) (s : State) (leaves : A → State) (x : A) → Ok x ≡ r → kept r s leaves ≡ leaves x
+kept_ok r s leaves x e = subst (λ r. kept r s leaves ≡ leaves x) e refl
+
 pub refused_same : (P : Setup) (s : State) (c : Call) (fault : CallFault) → Gives P s c (Err fault) → after P s c ≡ s
-refused_same P s (append snapshot accesses) fault e = subst (λ r. kept r s (λ _. append_leaves s snapshot accesses) ≡ s) e refl
-refused_same P s assign fault e = subst (λ r. kept r s (λ _. assign_leaves P s) ≡ s) e refl
-refused_same P s (begin w) fault e = subst (λ r. kept r s (λ ticket. with_worker s w (begun ticket.1 (worker_at s.workers w))) ≡ s) e refl
-refused_same P s (park w k) fault e = subst (λ r. kept r s (λ j. with_worker s w (in_status (Parked j) (worker_at s.workers w))) ≡ s) e refl
-refused_same P s (resume w) fault e = subst (λ r. kept r s (λ ticket. with_worker s w (in_status (Held ticket.1) (worker_at s.workers w))) ≡ s) e refl
-refused_same P s (recall w) fault e = subst (λ r. kept r s (λ k. with_worker s w (in_status (Parked k) (worker_at s.workers w))) ≡ s) e refl
-refused_same P s (finish w k) fault (e, _) = subst (λ r. kept r s (λ _. finish_leaves P s w k) ≡ s) e refl
+refused_same P s (append snapshot accesses) fault e = kept_err _ s _ fault e
+refused_same P s assign fault e = kept_err _ s _ fault e
+refused_same P s (begin w) fault e = kept_err _ s _ fault e
+refused_same P s (park w k) fault e = kept_err _ s _ fault e
+refused_same P s (resume w) fault e = kept_err _ s _ fault e
+refused_same P s (recall w) fault e = kept_err _ s _ fault e
+refused_same P s (finish w k) fault (e, _) = kept_err _ s _ fault e
 refused_same P s (verdict k) fault e = refl
 refused_same P s (need w v) fault e = refl
 refused_same P s tally fault e = refl
@@ -133,26 +135,26 @@ module _ (P : Setup) (L : Lawful P) (it : ℕ → Intention) where
   keep : (above : List Line) (s : State) (l : Line) → Inv P it (history above) s → GivesLine P s l → Agrees it (history (l ∷ above)).appended → Inv P it (history (l ∷ above)) (after P s (call_of l))
   keep above s (line c (Err fault)) I g agree = subst (Inv P it (history above)) (sym (refused_same P s c fault g)) I
   keep above s (line (append snapshot accesses) (Ok k)) I g agree =
-      subst (λ r. Inv P it (history (line (append snapshot accesses) (Ok k) ∷ above)) (kept r s (λ _. append_leaves s snapshot accesses))) g (keep_append P it (history above) s I snapshot accesses k g agree)
+      subst (Inv P it (history (line (append snapshot accesses) (Ok k) ∷ above))) (sym (kept_ok _ s _ k g)) (keep_append P it (history above) s I snapshot accesses k g agree)
   keep above s (line assign (Ok x)) I g agree =
       let (less, e) = assign_passed P s x g in
-      subst (λ r. Inv P it (history (line assign (Ok x) ∷ above)) (kept r s (λ _. assign_leaves P s))) g
+      subst (Inv P it (history (line assign (Ok x) ∷ above))) (sym (kept_ok _ s _ x g))
       (subst (λ (y : ℕ × ℕ). Inv P it (entered (history above) (assigned y.1 y.0)) (assign_leaves P s)) (sym e) (keep_assign P L it (history above) s I less))
   keep above s (line (begin w) (Ok x)) I g agree =
-      subst (λ r. Inv P it (history (line (begin w) (Ok x) ∷ above)) (kept r s (λ ticket. with_worker s w (begun ticket.1 (worker_at s.workers w))))) g (keep_begin P it (history above) s I L w x.1 (begin_passed P s w x g))
+      subst (Inv P it (history (line (begin w) (Ok x) ∷ above))) (sym (kept_ok _ s _ x g)) (keep_begin P it (history above) s I L w x.1 (begin_passed P s w x g))
   keep above s (line (park w k) (Ok j)) I g agree =
       let (f, e) = park_passed s w k j g in
       let (o, n) = held_on k (status_at s w) f in
-      subst (λ r. Inv P it (history above) (kept r s (λ j. with_worker s w (in_status (Parked j) (worker_at s.workers w))))) g (keep_move P it (history above) s I w (Parked j) o refl (e ∙ sym n))
+      subst (Inv P it (history above)) (sym (kept_ok _ s _ j g)) (keep_move P it (history above) s I w (Parked j) o refl (e ∙ sym n))
   keep above s (line (resume w) (Ok x)) I g agree =
       let (o, e) = resume_passed P s w x g in
-      subst (λ r. Inv P it (history above) (kept r s (λ ticket. with_worker s w (in_status (Held ticket.1) (worker_at s.workers w))))) g (keep_move P it (history above) s I w (Held x.1) o refl e)
+      subst (Inv P it (history above)) (sym (kept_ok _ s _ x g)) (keep_move P it (history above) s I w (Held x.1) o refl e)
   keep above s (line (recall w) (Ok k)) I g agree =
       let (o, e) = recall_passed P s w k g in
-      subst (λ r. Inv P it (history above) (kept r s (λ k. with_worker s w (in_status (Parked k) (worker_at s.workers w))))) g (keep_move P it (history above) s I w (Parked k) o refl e)
+      subst (Inv P it (history above)) (sym (kept_ok _ s _ k g)) (keep_move P it (history above) s I w (Parked k) o refl e)
   keep above s (line (finish w k) (Ok x)) I g agree =
       let (f, e) = finish_passed P s w k (x.0, verdict_of x.1) g.0 in
-      subst (λ r. Inv P it (history (line (finish w k) (Ok x) ∷ above)) (kept r s (λ _. finish_leaves P s w k))) g.0 (keep_finish P L it (history above) s I w k f)
+      subst (Inv P it (history (line (finish w k) (Ok x) ∷ above))) (sym (kept_ok _ s _ (x.0, verdict_of x.1) g.0)) (keep_finish P L it (history above) s I w k f)
   keep above s (line (verdict k) (Ok v)) I g agree = I
   keep above s (line (need w v) (Ok n)) I g agree = I
   keep above s (line tally (Ok x)) I g agree = I
@@ -161,14 +163,14 @@ module _ (P : Setup) (L : Lawful P) (it : ℕ → Intention) where
 
 -- there is a row for each accepted append
 rows_after : (P : Setup) (above : List Line) (s : State) (l : Line) → GivesLine P s l → length s.rows ≡ appends above → length (after P s (call_of l)).rows ≡ appends (l ∷ above)
-rows_after P above s (line c (Err fault)) g e = ap (λ (t : State). length t.rows) (refused_same P s c fault g) ∙ e
-rows_after P above s (line (append snapshot accesses) (Ok k)) g e = subst (λ r. length (kept r s (λ _. append_leaves s snapshot accesses)).rows ≡ suc (appends above)) g (length-append s.rows _ ∙ omega (arith, e))
-rows_after P above s (line assign (Ok x)) g e = subst (λ r. length (kept r s (λ _. assign_leaves P s)).rows ≡ appends above) g e
-rows_after P above s (line (begin w) (Ok x)) g e = subst (λ r. length (kept r s (λ ticket. with_worker s w (begun ticket.1 (worker_at s.workers w)))).rows ≡ appends above) g e
-rows_after P above s (line (park w k) (Ok x)) g e = subst (λ r. length (kept r s (λ j. with_worker s w (in_status (Parked j) (worker_at s.workers w)))).rows ≡ appends above) g e
-rows_after P above s (line (resume w) (Ok x)) g e = subst (λ r. length (kept r s (λ ticket. with_worker s w (in_status (Held ticket.1) (worker_at s.workers w)))).rows ≡ appends above) g e
-rows_after P above s (line (recall w) (Ok x)) g e = subst (λ r. length (kept r s (λ k. with_worker s w (in_status (Parked k) (worker_at s.workers w)))).rows ≡ appends above) g e
-rows_after P above s (line (finish w k) (Ok x)) g e = subst (λ r. length (kept r s (λ _. finish_leaves P s w k)).rows ≡ appends above) g.0 (length-set s.rows _ _ ∙ e)
+rows_after P above s (line c (Err fault)) g e = ap last_number (refused_same P s c fault g) ∙ e
+rows_after P above s (line (append snapshot accesses) (Ok k)) g e = ap last_number (kept_ok _ s _ k g) ∙ length-append s.rows _ ∙ omega (arith, e)
+rows_after P above s (line assign (Ok x)) g e = ap last_number (kept_ok _ s _ x g) ∙ e
+rows_after P above s (line (begin w) (Ok x)) g e = ap last_number (kept_ok _ s _ x g) ∙ e
+rows_after P above s (line (park w k) (Ok x)) g e = ap last_number (kept_ok _ s _ x g) ∙ e
+rows_after P above s (line (resume w) (Ok x)) g e = ap last_number (kept_ok _ s _ x g) ∙ e
+rows_after P above s (line (recall w) (Ok x)) g e = ap last_number (kept_ok _ s _ x g) ∙ e
+rows_after P above s (line (finish w k) (Ok x)) g e = ap last_number (kept_ok _ s _ (x.0, verdict_of x.1) g.0) ∙ length-set s.rows _ _ ∙ e
 rows_after P above s (line (verdict k) (Ok x)) g e = e
 rows_after P above s (line (need w v) (Ok x)) g e = e
 rows_after P above s (line tally (Ok x)) g e = e

@@ -1,7 +1,7 @@
 -- Tests over lists and numbers, places of a list after a write, and answers that are chains of checks.
-use Rattle.std.proofs.Common.{◌≡◌, ℕ, zero, suc, ◌+◌, ◌<◌, ◌≤◌, Bool, true, false, cond, eqb, ◌⊎◌, List, [], ◌∷◌, length, get_or, set, Ok, Result, sym, refl, ap, ◌∙◌, subst, inl, inr, arith, get_or-set_other, get_or-set_same}
+use Rattle.std.proofs.Common.{◌≡◌, ℕ, zero, suc, ◌<◌, ◌≤◌, Bool, true, false, cond, eqb, ◌⊎◌, List, [], ◌∷◌, length, get_or, set, Ok, Result, sym, refl, ap, ◌∙◌, subst, inl, inr, arith, get_or-set_other, get_or-set_same}
 use mathlib.Core.Path.{fun_ext}
-use Rattle.std.specs.List.{prefix_len, AllByRecursion as All}
+use Rattle.std.specs.List.{AllByRecursion as All}
 use Rattle.std.proofs.lemmas.Bool.{both_ways, eqb-true, eqb-false, eq-eqb, ne_eqb, cases_eq, cases_Bool, and_parts, or_cases, or_left, or_right, cond-true, cond-false, cond_both}
 use Rattle.terms.specs.Refusals.{refuse}
 use Rattle.model.specs.Faults.{CallFault}
@@ -19,12 +19,13 @@ any_in Q p (x ∷ xs) f h =
       | inr there ↦ let (a, b, c, d) = any_in Q p xs f.1 there in (a, b, c, λ q e. or_right (q x) (any q xs) (d q e))
     ]
 
-all_unit : {A : Type 0} (xs : List A) → All (λ _. Unit {0}) xs
-all_unit [] = tt
-all_unit (x ∷ xs) = (tt, all_unit xs)
+-- what holds of everything holds of each element
+pub each : {A : Type 0} (Q : A → Type 0) → ((x : A) → Q x) → (xs : List A) → All Q xs
+each Q f [] = tt
+each Q f (x ∷ xs) = (f x, each Q f xs)
 
 pub any_some : {A : Type 0} (p : A → Bool) (xs : List A) → any p xs ≡ true → (a : A) × (p a ≡ true) × ((q : A → Bool) → q a ≡ true → any q xs ≡ true)
-any_some p xs h = let (a, _, b, c) = any_in (λ _. Unit {0}) p xs (all_unit xs) h in (a, b, c)
+any_some p xs h = let (a, _, b, c) = any_in (λ _. Unit {0}) p xs (each _ (λ _. tt) xs) h in (a, b, c)
 
 pub all_each : {A : Type 0} (p : A → Bool) (xs : List A) → all p xs ≡ true → (q : A → Bool) → any q xs ≡ true → (a : A) × (p a ≡ true) × (q a ≡ true)
 unfolding any all
@@ -35,19 +36,6 @@ all_each p (x ∷ xs) h q e =
       | inl here ↦ (x, hs.0, here)
       | inr there ↦ all_each p xs hs.1 q there
     ]
-
--- where no element stops the front, every element passes
-pub leading_all : {A : Type 0} (p : A → Bool) (xs : List A) → length xs ≤ prefix_len p xs → All (λ x. p x ≡ true) xs
-leading_all p [] h = tt
-leading_all p (x ∷ xs) h =
-    elim (cases_Bool (p x)) [
-      | inl t ↦ (t, leading_all p xs (let z : suc (length xs) ≤ 1 + prefix_len p xs = rw t at h in omega arith))
-      | inr t ↦ absurd (let z : suc (length xs) ≤ 0 = rw t at h in omega arith)
-    ]
-
-pub all_both : {A : Type 0} (Q R : A → Type 0) (xs : List A) → All Q xs → All R xs → All (λ x. Q x × R x) xs
-all_both Q R [] a b = tt
-all_both Q R (x ∷ xs) a b = ((a.0, b.0), all_both Q R xs a.1 b.1)
 
 -- ⟨ tests over the numbers below a bound ⟩
 

@@ -2,27 +2,23 @@
 use Rattle.std.proofs.Common.{◌≡◌, ℕ, suc, ◌+◌, ◌-◌, ◌<◌, ◌≤◌, Bool, true, false, cond, not, ◌&&◌, eqb, ◌⊎◌, List, [], ◌∷◌, length, get_or, Ok, Err, sum_by, count_by, sym, refl, ap, ◌∙◌, subst, inl, inr, arith}
 use Rattle.std.specs.List.{range_with_len, AllByRecursion as All}
 use Rattle.std.proofs.ByRecursion.{All-from_get_or}
-use Rattle.std.proofs.lemmas.Bool.{both_ways, le-ltb, eqb-true, eq-eqb, cases_Bool, cases_lt, and_parts, and_from, not-true, not_from_false, cond-true, cond-false}
+use Rattle.std.proofs.lemmas.Bool.{both_ways, false_from_ne_true, le-ltb, eqb-true, eq-eqb, cases_Bool, cases_lt, and_parts, and_from, not-true, not_from_false, cond-true, cond-false}
 use Rattle.model.specs.declared.fault.CallFault.TheVariants.{NeedNotPosted}
 use Rattle.model.specs.Finding.{any, exists}
 use Rattle.model.specs.Words.{Intention, Setup, Lawful, worker}
 use Rattle.model.specs.Needs.{need_of}
-use Rattle.model.specs.Sheets.{Line, history, is_finished, is_open, is_queued, pairs, intention, assigns, finishes, open_workers, queued_orders, Unended, HasOrder, Oldest, Lowest, OpenOn, Idle, Blocked}
+use Rattle.model.specs.Sheets.{Line, history, is_finished, is_open, is_queued, pairs, intention, assigns, finishes, open_workers, queued_orders, HasOrder, Oldest, Lowest, OpenOn, Idle, Blocked}
 use Rattle.model.specs.State.{Order, Worker, State, no_worker, worker_at, is_empty, oldest_of, is_on, on_number, status_at, posted_at, orders_at}
 use Rattle.model.specs.Model.{oldest_at, lacks, begin_answer, queued_count_of}
-use Rattle.model.proofs.Found.{any_some, exists_some, least}
+use Rattle.model.proofs.Found.{any_some, each, exists_some, least}
 use Rattle.model.proofs.Sharing.{worker_most}
-use Rattle.model.proofs.Counting.{sum_split, sum_same, sum_ones, each, sum_places, sum_front}
+use Rattle.model.proofs.Counting.{sum_split, sum_same, sum_ones, sum_places, sum_front}
 use Rattle.model.proofs.Invariant.{is_open_order, Inv}
-use Rattle.model.proofs.Oldest.{queue_none, head_late, head_home, head_assigned, head_needs, head_none, head_clear, head_blocked}
+use Rattle.model.proofs.Oldest.{unended, queue_none, head_late, head_home, head_assigned, head_needs, head_undone, head_none, head_clear, head_blocked}
 use Rattle.model.proofs.Moving.{Granted, begin_passed, lacking_less}
 
 module _ (P : Setup) (it : ℕ → Intention) (above : List Line) (s : State) (I : Inv P it (history above) s) where
   -- ⟨ orders ⟩
-
-  -- a number whose worker has not posted it has no finish
-  pub unended : (j : ℕ) → posted_at s (worker P.map (it j)) < j → Unended above j
-  unended j l = elim (cases_Bool (is_finished (history above) j)) [ inl t ↦ absurd (omega (arith, (I.told.done j t).1)) | inr t ↦ t ]
 
   -- the first order that is stored is the oldest by the sheet
   pub stored_oldest : (w : ℕ) → is_empty (orders_at s w) ≡ false → Oldest above w (oldest_of (orders_at s w)).number
@@ -32,7 +28,7 @@ module _ (P : Setup) (it : ℕ → Intention) (above : List Line) (s : State) (I
       let home = head_home P it (history above) s I w k some refl in (
         (
           subst (λ u. pairs u k (history above).assigned ≡ true) home (I.told.had k (omega arith) (head_assigned P it (history above) s I w k some refl)),
-          unended k (rw home late),
+          head_undone P it (history above) s I w k some refl,
         ),
         λ j l (given, u). let (p, _, h) = I.told.has w j given in head_none P it (history above) s I w k some refl j (rw h at (I.told.undone j p u)) l h,
       )
@@ -40,10 +36,8 @@ module _ (P : Setup) (it : ℕ → Intention) (above : List Line) (s : State) (I
   -- a worker with an order has one stored
   pub some_stored : (w k : ℕ) → HasOrder above w k → is_empty (orders_at s w) ≡ false
   some_stored w k (given, u) =
-      elim (cases_Bool (is_empty (orders_at s w))) [
-        | inl t ↦ absurd (let (p, l, h) = I.told.has w k given in queue_none P it w _ _ _ t (I.staff.queues w) k (rw h at (I.told.undone k p u)) (omega arith) h)
-        | inr t ↦ t
-      ]
+      let (p, l, h) = I.told.has w k given in
+      false_from_ne_true _ (λ t. queue_none P it w _ _ _ t (I.staff.queues w) k (rw h at (I.told.undone k p u)) (omega arith) h)
 
   -- the oldest order by the sheet is the first that is stored
   pub oldest_stored : (w k : ℕ) → Oldest above w k → (oldest_of (orders_at s w)).number ≡ k
@@ -73,7 +67,7 @@ module _ (P : Setup) (it : ℕ → Intention) (above : List Line) (s : State) (I
   on_open w o =
       let O = I.staff.opens w o in
       let k = on_number (status_at s w) in
-      (I.told.begun w o, unended k (rw (head_home P it (history above) s I w k O.some O.oldest) (head_late P it (history above) s I w k O.some O.oldest)))
+      (I.told.begun w o, head_undone P it (history above) s I w (on_number (status_at s w)) O.some O.oldest)
 
   pub open_on : (w k : ℕ) → OpenOn above w k → is_on (status_at s w) ≡ true
   open_on w k (given, u) =
@@ -183,7 +177,7 @@ module _ (P : Setup) (L : Lawful P) (above : List Line) (s : State) (I : Inv P (
   blocked t =
       let (v, l, b) = exists_some _ (P.map.partitions + 1) t in
       let (j, before, sh, late) = head_blocked P (intention above) (history above) s I w k some oldest v (omega (arith, lacking_less s (oldest_at s w) v b, needs_are v (omega arith))) in
-      (j, before, (omega arith, omega (arith, head_assigned P (intention above) (history above) s I w k some oldest, I.bound), unended P (intention above) above s I j late), sh)
+      (j, before, (omega arith, omega (arith, head_assigned P (intention above) (history above) s I w k some oldest, I.bound), unended P (intention above) (history above) s I j late), sh)
 
   not_blocked : Granted P s w k → Blocked P above k → ⊥
   not_blocked G (j, l, (p, _, u), sh) =
@@ -192,7 +186,7 @@ module _ (P : Setup) (L : Lawful P) (above : List Line) (s : State) (I : Inv P (
 
   pub waits_or_granted : Idle above w → ((begin_answer P s w ≡ Err (NeedNotPosted k)) × Blocked P above k) ⊎ ((begin_answer P s w ≡ Ok (w, k)) × (Blocked P above k → ⊥))
   waits_or_granted idle =
-      let off : is_on (status_at s w) ≡ false = elim (cases_Bool (is_on (status_at s w))) [ inl t ↦ absurd (idle _ (on_open P (intention above) above s I w t)) | inr t ↦ t ] in
+      let off : is_on (status_at s w) ≡ false = false_from_ne_true _ (λ t. idle _ (on_open P (intention above) above s I w t)) in
       let checked : begin_answer P s w ≡ cond (exists (lacks s (oldest_at s w)) (P.map.partitions + 1)) (Err (NeedNotPosted (oldest_at s w).number)) (Ok (w, (oldest_at s w).number)) =
       cond-false _ _ _ (le-ltb P.map.partitions w known) ∙ cond-false _ _ _ off ∙ cond-false _ _ _ some in
       elim (cases_Bool (exists (lacks s (oldest_at s w)) (P.map.partitions + 1))) [

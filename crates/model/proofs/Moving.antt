@@ -1,11 +1,11 @@
 -- A granted begin keeps the invariant, and so do park, resume and recall, which only move an open worker between held and parked.
-use Rattle.std.proofs.Common.{◌≡◌, ℕ, ◌+◌, ◌<◌, ◌≤◌, true, false, cond, not, ◌&&◌, ◌||◌, eqb, ltb, List, ◌∷◌, length, get_or, set, Ok, count_by, sym, refl, ap, ◌∙◌, subst, inl, inr, arith, length-set}
+use Rattle.std.proofs.Common.{◌≡◌, ℕ, ◌+◌, ◌<◌, ◌≤◌, true, false, cond, not, ◌&&◌, ◌||◌, eqb, ltb, List, ◌∷◌, length, get_or, set, Ok, sym, refl, ap, ◌∙◌, subst, inl, inr, arith, length-set}
 use Rattle.std.specs.List.{AllByRecursion as All}
 use Rattle.std.proofs.ByRecursion.{All-weaker}
 use Rattle.std.proofs.lemmas.List.{get_or_past}
 use Rattle.std.proofs.lemmas.List.Sums.{sum_by-set}
 use Rattle.std.proofs.lemmas.Bool.Decides.{nat_tests}
-use Rattle.std.proofs.lemmas.Bool.{both_ways, ltb-false, eqb-true, eq-eqb, ne_eqb, le-leb, cases_eq, cases_lt, cases_Bool, and_parts, and_from, or_cases, or_left, or_right, cond-true, cond-false}
+use Rattle.std.proofs.lemmas.Bool.{both_ways, false_from_ne_true, ltb-false, eqb-true, eq-eqb, ne_eqb, cases_eq, cases_lt, cases_Bool, and_parts, and_from, or_cases, or_left, or_right, cond-true, cond-false}
 use Rattle.model.specs.declared.fault.CallFault.TheVariants.{UnknownWorker, WorkerOpen, NoOrder, NeedNotPosted}
 use Rattle.model.specs.Finding.{any, exists}
 use Rattle.model.specs.Words.{Intention, Setup, Lawful, worker}
@@ -16,7 +16,7 @@ use Rattle.model.specs.Model.{oldest_at, lacks, begin_answer, begun}
 use Rattle.model.proofs.Found.{exists_from, passed, ok_same, put, put_same, put_other, put_both, put_keeps, set-put}
 use Rattle.model.proofs.Counting.{sum_split}
 use Rattle.model.proofs.Invariant.{posts, Fin, Clear, Queue, Opened, Staff, Marks, Told, ToldOf, is_open_order, Counts, Inv}
-use Rattle.model.proofs.Oldest.{head_late, head_home, head_assigned, head_needs, head_clear}
+use Rattle.model.proofs.Oldest.{head_late, head_home, head_needs, head_unfinished, head_undone, head_once, head_clear}
 
 pub pairs-cons : (w k u j : ℕ) (xs : List (ℕ × ℕ)) → pairs u j ((w, k) ∷ xs) ≡ ((eqb u w && eqb j k) || pairs u j xs)
 unfolding any
@@ -54,6 +54,32 @@ begin_passed P s w ticket e =
         | inr t ↦ not_lacking s (oldest_at s w) v t
       ];
     }
+
+-- ⟨ a write at one worker that posts nothing ⟩
+
+module _ (P : Setup) (it : ℕ → Intention) (at : ℕ → Worker) (w : ℕ) (x : Worker) (same : x.posted ≡ (at w).posted) where
+  -- what is left to show of the staff is the queues, and what worker w is open on
+  pub staff_put : (n n' : ℕ) → Staff P it n at → ((u : ℕ) → Queue P it u (put at w x u).posted (put at w x u).orders n') → (is_on x.status ≡ true → Opened P it (posts at) x) → Staff P it n' (put at w x)
+  staff_put n n' staff queues opened =
+      let pk = put_keeps (λ (y : Worker). y.posted) at w x same in
+      record {
+        queues = queues;
+        opens = λ u. subst (λ f. is_on (put at w x u).status ≡ true → Opened P it f (put at w x u)) (sym pk)
+            (put_both at w x u (λ y. is_on y.status ≡ true → Opened P it (posts at) y) (λ _. opened) (λ _. staff.opens u));
+        clear = subst (λ f. (j : ℕ) → Fin P it f j → Clear P it f j) (sym pk) staff.clear;
+      }
+
+  -- where nothing is assigned either, it is the one queue of worker w
+  pub staff_kept : (n : ℕ) → Staff P it n at → Queue P it w x.posted x.orders n → (is_on x.status ≡ true → Opened P it (posts at) x) → Staff P it n (put at w x)
+  staff_kept n staff queue = staff_put n n staff (λ u. put_both at w x u (λ y. Queue P it u y.posted y.orders n) (λ e. rw e queue) (λ _. staff.queues u))
+
+  -- what the lines say stays, where worker w stays open on its number or on none
+  pub told_put : (count : ℕ) (orders grants : List (ℕ × ℕ)) (ends : List ℕ) → is_on x.status ≡ is_on (at w).status → on_number x.status ≡ on_number (at w).status →
+      ToldOf P it count orders grants ends at → ToldOf P it count orders grants ends (put at w x)
+  told_put count orders grants ends on number told =
+      subst (λ f. Told P it count orders grants ends f (λ u. is_on (put at w x u).status) (λ u. on_number (put at w x u).status)) (sym (put_keeps (λ (y : Worker). y.posted) at w x same))
+      (subst (λ f. Told P it count orders grants ends (posts at) f (λ u. on_number (put at w x u).status)) (sym (put_keeps (λ (y : Worker). is_on y.status) at w x on))
+      (subst (λ f. Told P it count orders grants ends (posts at) (λ u. is_on (at u).status) f) (sym (put_keeps (λ (y : Worker). on_number y.status) at w x number)) told))
 
 module _ (P : Setup) (it : ℕ → Intention) (h : History) (s : State) (I : Inv P it h s) where
   -- the workers after a write at w, as a function
@@ -95,29 +121,17 @@ module _ (P : Setup) (it : ℕ → Intention) (h : History) (s : State) (I : Inv
     home = head_home P it h s I w k G.some G.oldest
 
     unfinished : Fin P it (posted_at s) k → ⊥
-    unfinished f = let z : k ≤ posted_at s w = rw home at f in omega (arith, late)
+    unfinished = head_unfinished P it h s I w k G.some G.oldest
 
     -- k was not granted before
     ungranted : pairs w k h.granted ≡ false
-    ungranted = elim (cases_Bool (pairs w k h.granted)) [
-      | inl t ↦ absurd (elim (I.told.began w k t).1 [ inl f ↦ unfinished f | inr (o, _) ↦ both_ways _ G.idle o ])
-      | inr t ↦ t
-    ]
+    ungranted = false_from_ne_true _ (λ t. elim (I.told.began w k t).1 [ inl f ↦ unfinished f | inr (o, _) ↦ both_ways _ G.idle o ])
 
     undone : any (eqb k) h.finished ≡ false
-    undone = elim (cases_Bool (any (eqb k) h.finished)) [ inl t ↦ absurd (unfinished (I.told.done k t).1) | inr t ↦ t ]
+    undone = head_undone P it h s I w k G.some G.oldest
 
     begin_staff : Staff P it s.assigned now
-    begin_staff =
-        let pk = put_keeps (λ (y : Worker). y.posted) at w x refl in
-        record {
-          queues = λ u. put_both at w x u (λ y. Queue P it u y.posted y.orders s.assigned) (λ e. rw e (I.staff.queues w)) (λ _. I.staff.queues u);
-          opens = λ u. subst (λ f. is_on (put at w x u).status ≡ true → Opened P it f (put at w x u)) (sym pk)
-              (put_both at w x u (λ y. is_on y.status ≡ true → Opened P it (posts at) y)
-              (λ e _. record { some = G.some; oldest = G.oldest; clear = clear })
-              (λ e. I.staff.opens u));
-          clear = subst (λ f. (j : ℕ) → Fin P it f j → Clear P it f j) (sym pk) I.staff.clear;
-        }
+    begin_staff = staff_kept P it at w x refl s.assigned I.staff (I.staff.queues w) (λ _. record { some = G.some; oldest = G.oldest; clear = clear })
 
     begin_told : ToldOf P it s.assigned h.assigned ((w, k) ∷ h.granted) h.finished now
     begin_told =
@@ -164,7 +178,7 @@ module _ (P : Setup) (it : ℕ → Intention) (h : History) (s : State) (I : Inv
     begin_counts : Counts P it h.assigned ((w, k) ∷ h.granted) h.finished (set s.workers w (begun k (worker_at s.workers w)))
     begin_counts =
         let C = I.counts in
-        let one : count_by (λ (x : ℕ × ℕ). eqb k x.1) h.assigned ≡ 1 = C.once k (omega (arith, late)) ∙ cond-true _ _ _ (le-leb k (length h.assigned) (omega (arith, head_assigned P it h s I w k G.some G.oldest, I.assigned))) in
+        let one = head_once P it h s I w k G.some G.oldest in
         record {
           load = omega (arith, C.load, sum_by-set (λ (x : Worker). length x.orders) s.workers w x no_worker (omega (arith, I.sixteen, low)));
           once = C.once;
@@ -196,9 +210,6 @@ module _ (P : Setup) (it : ℕ → Intention) (h : History) (s : State) (I : Inv
       let x = in_status y (worker_at s.workers w) in
       let l : w ≤ 15 = on_low w o in
       let b : w < length s.workers = omega (arith, I.sixteen) in
-      let pk = put_keeps (λ (y : Worker). y.posted) at w x refl in
-      let ok = put_keeps (λ (y : Worker). is_on y.status) at w x (oy ∙ sym o) in
-      let nk = put_keeps (λ (y : Worker). on_number y.status) at w x n in
       let O = I.staff.opens w o in
       record {
         agree = I.agree;
@@ -208,19 +219,9 @@ module _ (P : Setup) (it : ℕ → Intention) (h : History) (s : State) (I : Inv
         sixteen = length-set _ _ _ ∙ I.sixteen;
         rows = I.rows;
         lasts = I.lasts;
-        staff = subst (Staff P it s.assigned) (sym (seen w x l)) (record {
-          queues = λ u. put_both at w x u (λ y. Queue P it u y.posted y.orders s.assigned) (λ e. rw e (I.staff.queues w)) (λ _. I.staff.queues u);
-          opens = λ u. subst (λ f. is_on (put at w x u).status ≡ true → Opened P it f (put at w x u)) (sym pk)
-              (put_both at w x u (λ y. is_on y.status ≡ true → Opened P it (posts at) y)
-              (λ e _. record { some = O.some; oldest = O.oldest ∙ sym n; clear = rw n O.clear })
-              (λ e. I.staff.opens u));
-          clear = subst (λ f. (j : ℕ) → Fin P it f j → Clear P it f j) (sym pk) I.staff.clear;
-        });
+        staff = subst (Staff P it s.assigned) (sym (seen w x l)) (staff_kept P it at w x refl s.assigned I.staff (I.staff.queues w) (λ _. record { some = O.some; oldest = O.oldest ∙ sym n; clear = rw n O.clear }));
         marks = subst (λ f. Marks P it f s.marks) (sym (posted_same w x l refl)) I.marks;
-        told = subst (ToldOf P it s.assigned h.assigned h.granted h.finished) (sym (seen w x l))
-            (subst (λ f. Told P it s.assigned h.assigned h.granted h.finished f (λ u. is_on (put at w x u).status) (λ u. on_number (put at w x u).status)) (sym pk)
-            (subst (λ f. Told P it s.assigned h.assigned h.granted h.finished (posts at) f (λ u. on_number (put at w x u).status)) (sym ok)
-            (subst (λ f. Told P it s.assigned h.assigned h.granted h.finished (posts at) (λ u. is_on (at u).status) f) (sym nk) I.told)));
+        told = subst (ToldOf P it s.assigned h.assigned h.granted h.finished) (sym (seen w x l)) (told_put P it at w x refl s.assigned h.assigned h.granted h.finished (oy ∙ sym o) n I.told);
         counts = record {
           load = omega (arith, I.counts.load, sum_by-set (λ (x : Worker). length x.orders) s.workers w x no_worker b);
           once = I.counts.once;

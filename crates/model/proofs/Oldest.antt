@@ -1,6 +1,7 @@
 -- A worker's orders, and its oldest one: what the invariant says of them.
-use Rattle.std.proofs.Common.{◌≡◌, ℕ, suc, ◌<◌, ◌≤◌, true, false, List, [], ◌∷◌, ◌++◌, get_or, drop, refl, ap, ◌∙◌, subst, inl, inr, arith}
-use Rattle.std.proofs.lemmas.Bool.{both_ways, cases_lt, cases_eq}
+use Rattle.std.proofs.Common.{◌≡◌, ℕ, suc, ◌<◌, ◌≤◌, true, false, eqb, List, [], ◌∷◌, ◌++◌, length, get_or, drop, count_by, refl, ap, ◌∙◌, subst, inl, inr, arith}
+use Rattle.std.proofs.lemmas.Bool.{both_ways, false_from_ne_true, le-leb, cases_lt, cases_eq, cond-true}
+use Rattle.model.specs.Finding.{any}
 use Rattle.model.specs.Words.{Intention, Setup, Lawful, Shares, worker}
 use Rattle.model.specs.Needs.{need_of}
 use Rattle.model.specs.Sheets.{History}
@@ -42,6 +43,14 @@ module _ (P : Setup) (it : ℕ → Intention) (h : History) (s : State) (I : Inv
   pub fin_most : (j : ℕ) → Fin P it (posted_at s) j → j ≤ s.assigned
   fin_most j f = let q = queue_most P it (worker P.map (it j)) _ _ _ (I.staff.queues (worker P.map (it j))) in omega arith
 
+  -- a number whose worker has not posted it has no finish
+  pub unended : (j : ℕ) → posted_at s (worker P.map (it j)) < j → any (eqb j) h.finished ≡ false
+  unended j l = false_from_ne_true _ (λ t. omega (arith, (I.told.done j t).1))
+
+  -- and none that is not assigned has one
+  pub unassigned_unended : (j : ℕ) → s.assigned < j → any (eqb j) h.finished ≡ false
+  unassigned_unended j l = false_from_ne_true _ (λ t. omega (arith, fin_most j (I.told.done j t).1))
+
   module _ (w k : ℕ) (some : is_empty (orders_at s w) ≡ false) (is : (oldest_of (orders_at s w)).number ≡ k) where
     head : (posted_at s w < k) × (worker P.map (it k) ≡ w) × NoneBetween P it w (posted_at s w) k × Queue P it w k (drop 1 (orders_at s w)) s.assigned
     head =
@@ -62,6 +71,16 @@ module _ (P : Setup) (it : ℕ → Intention) (h : History) (s : State) (I : Inv
 
     pub head_needs : (v : ℕ) → v ≤ 15 → get_or (oldest_of (orders_at s w)).needs v 0 ≡ need_of P.map it k v
     head_needs v l = (queue_head P it w _ _ _ some (I.staff.queues w)).3 v l ∙ ap (λ n. need_of P.map it n v) is
+
+    -- k is not finished, has no finish, and stands once among the assigned
+    pub head_unfinished : Fin P it (posted_at s) k → ⊥
+    head_unfinished f = let z : k ≤ posted_at s w = rw head_home at f in omega (arith, head_late)
+
+    pub head_undone : any (eqb k) h.finished ≡ false
+    head_undone = unended k (rw head_home head_late)
+
+    pub head_once : count_by (λ (x : ℕ × ℕ). eqb k x.1) h.assigned ≡ 1
+    head_once = I.counts.once k (omega (arith, head_late)) ∙ cond-true _ _ _ (le-leb k (length h.assigned) (omega (arith, head_assigned, I.assigned)))
 
     pub head_none : NoneBetween P it w (posted_at s w) k
     head_none = head.2

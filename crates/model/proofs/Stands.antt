@@ -1,5 +1,5 @@
 -- The theorem: every sheet that the calls give has the law. Field by field, from the invariant at the line's moment.
-use Rattle.std.proofs.Common.{◌≡◌, ℕ, ◌+◌, true, cond, not, ltb, leb, ◌⊎◌, List, [], ◌∷◌, ◌++◌, get_or, Ok, Err, Result, sym, refl, ap, ◌∙◌, subst, inl, inr, arith}
+use Rattle.std.proofs.Common.{◌≡◌, ℕ, ◌+◌, true, cond, not, ltb, leb, ◌⊎◌, List, [], ◌∷◌, ◌++◌, get_or, Ok, Err, Result, sym, refl, ap, ◌∙◌, subst, inl, inr, arith, append_assoc}
 use Rattle.std.proofs.lemmas.Bool.{both_ways, ltb-false, leb-true, cases_Bool, and_parts, not-false}
 use Rattle.terms.specs.Numbers.{within}
 use Rattle.model.specs.Faults.{CallFault}
@@ -48,11 +48,7 @@ shown_clashes P L sheet above s I w k f x S =
 module _ (P : Setup) (L : Lawful P) (sheet : List Line) (sh : Sheet P sheet) where
   -- the line and what stood above it
   up : (l : Line) (above : List Line) → Stood sheet (l ∷ above) → Stood sheet above
-  up l above (below, e) = (below ++ l ∷ [], e ∙ sym (shift below))
-    where
-      shift : (below : List Line) → (below ++ l ∷ []) ++ above ≡ below ++ l ∷ above
-      shift [] = refl
-      shift (x ∷ below) = ap (λ xs. x ∷ xs) (shift below)
+  up l above (below, e) = (below ++ l ∷ [], e ∙ sym (append_assoc below (l ∷ []) above))
 
   given : (l : Line) (above : List Line) → Stood sheet (l ∷ above) → GivesLine P (state_of P above) l
   given l above st = (sheet_then P L sheet sh (l ∷ above) st).0
