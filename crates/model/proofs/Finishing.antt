@@ -1,5 +1,5 @@
 -- An accepted finish decides as the book does, and keeps the invariant.
-use Rattle.std.proofs.Common.{◌≡◌, ℕ, ◌+◌, ◌-◌, ◌*◌, ◌<◌, ◌≤◌, true, false, cond, not, ◌||◌, eqb, ◌≢◌, ◌⊎◌, List, [], ◌∷◌, length, drop, set, sym, refl, ap, ◌∙◌, subst, inl, inr, arith, length-set, get_or-set_other, get_or-set_same}
+use Rattle.std.proofs.Common.{◌≡◌, ℕ, ◌+◌, ◌-◌, ◌*◌, ◌<◌, ◌≤◌, true, false, cond, not, ◌||◌, eqb, ◌≢◌, ◌⊎◌, List, [], ◌∷◌, length, set, sym, refl, ap, ◌∙◌, subst, inl, inr, arith, length-set, get_or-set_other, get_or-set_same}
 use Rattle.std.specs.List.{AllByRecursion as All}
 use Rattle.std.proofs.ByRecursion.{All-weaker}
 use Rattle.std.proofs.lemmas.List.Sums.{sum_by-set}
@@ -12,14 +12,14 @@ use Rattle.model.specs.Words.{Access, Intention, Setup, Lawful, is_at, has, Shar
 use Rattle.model.specs.Book.{commits, decided}
 use Rattle.model.specs.Sheets.{History, entered, pairs}
 use Rattle.model.specs.Sheets.Event.{finished}
-use Rattle.model.specs.State.{Row, Order, Status, Worker, State, no_row, no_worker, row_at, worker_at, mark_at, is_empty, oldest_of, is_on, on_number, is_held_on, status_at, posted_at, orders_at, intention_at}
+use Rattle.model.specs.State.{Row, Status, Worker, State, no_row, no_worker, row_at, worker_at, mark_at, is_empty, oldest_of, is_on, on_number, is_held_on, status_at, posted_at, orders_at, intention_at}
 use Rattle.model.specs.Model.{fits, hit_by, hit, passes, marking, marks_after, posting, finish_leaves}
 use Rattle.model.proofs.Found.{any_in, any_some, exists_some, exists_from, at_set, put, put_same, put_other, put_both}
 use Rattle.model.proofs.Sharing.{Known, is_at_lem, at_itself, has_known, has_shares, conflict_some, conflict_from}
 use Rattle.model.proofs.Booked.{book_aborted, book_committed}
 use Rattle.model.proofs.Counting.{sum_split}
 use Rattle.model.proofs.Invariant.{posts, Fin, Clear, Queue, Marked, Opened, Rows, Staff, Marks, ToldOf, is_open_order, Counts, Inv}
-use Rattle.model.proofs.Oldest.{head_late, head_home, head_rest, head_assigned, head_unfinished, head_undone, head_once, head_first}
+use Rattle.model.proofs.Oldest.{drop_one, head_late, head_home, head_rest, head_assigned, head_unfinished, head_undone, head_once, head_first}
 use Rattle.model.proofs.Moving.{seen, on_low}
 
 pub held_on : (k : ℕ) (x : Status) → is_held_on k x ≡ true → (is_on x ≡ true) × (on_number x ≡ k)
@@ -30,10 +30,6 @@ held_on k (Parked j) h = absurd (both_ways false refl h)
 pub any-cons : (j k : ℕ) (xs : List ℕ) → any (eqb j) (k ∷ xs) ≡ (eqb j k || any (eqb j) xs)
 unfolding any
 any-cons j k xs = refl
-
-drop_one : (os : List Order) → is_empty os ≡ false → length (drop 1 os) + 1 ≡ length os
-drop_one [] e = absurd (both_ways true e refl)
-drop_one (o ∷ os) e = omega arith
 
 -- ⟨ marks ⟩
 

@@ -1,5 +1,5 @@
 -- What the invariant says in the words of the sheet: who has which order, who waits, who can go on, and what is counted.
-use Rattle.std.proofs.Common.{◌≡◌, ℕ, suc, ◌+◌, ◌-◌, ◌<◌, ◌≤◌, Bool, true, false, cond, not, ◌&&◌, eqb, ◌⊎◌, List, [], ◌∷◌, length, get_or, Ok, Err, sum_by, count_by, sym, refl, ap, ◌∙◌, subst, inl, inr, arith}
+use Rattle.std.proofs.Common.{◌≡◌, ℕ, suc, ◌+◌, ◌-◌, ◌<◌, ◌≤◌, Bool, true, false, cond, not, ◌&&◌, eqb, ◌⊎◌, List, length, get_or, Ok, Err, sum_by, count_by, sym, refl, ap, ◌∙◌, subst, inl, inr, arith}
 use Rattle.std.specs.List.{range_with_len, AllByRecursion as All}
 use Rattle.std.proofs.ByRecursion.{All-from_get_or}
 use Rattle.std.proofs.lemmas.Bool.{both_ways, false_from_ne_true, le-ltb, eqb-true, eq-eqb, cases_Bool, cases_lt, and_parts, and_from, not-true, not_from_false, cond-true, cond-false}
@@ -8,13 +8,13 @@ use Rattle.model.specs.Finding.{any, exists}
 use Rattle.model.specs.Words.{Intention, Setup, Lawful, worker}
 use Rattle.model.specs.Needs.{need_of}
 use Rattle.model.specs.Sheets.{Line, history, is_finished, is_open, is_queued, pairs, intention, assigns, finishes, open_workers, queued_orders, HasOrder, Oldest, Lowest, OpenOn, Idle, Blocked}
-use Rattle.model.specs.State.{Order, Worker, State, no_worker, worker_at, is_empty, oldest_of, is_on, on_number, status_at, posted_at, orders_at}
+use Rattle.model.specs.State.{Worker, State, no_worker, worker_at, is_empty, oldest_of, is_on, on_number, status_at, posted_at, orders_at}
 use Rattle.model.specs.Model.{oldest_at, lacks, begin_answer, queued_count_of}
 use Rattle.model.proofs.Found.{any_some, each, exists_some, least}
 use Rattle.model.proofs.Sharing.{worker_most}
 use Rattle.model.proofs.Counting.{sum_split, sum_same, sum_ones, sum_places, sum_front}
 use Rattle.model.proofs.Invariant.{is_open_order, Inv}
-use Rattle.model.proofs.Oldest.{unended, queue_none, head_late, head_home, head_assigned, head_needs, head_undone, head_none, head_clear, head_blocked}
+use Rattle.model.proofs.Oldest.{drop_one, unended, queue_none, head_late, head_home, head_assigned, head_needs, head_undone, head_none, head_clear, head_blocked}
 use Rattle.model.proofs.Moving.{Granted, begin_passed, lacking_less}
 
 module _ (P : Setup) (it : ℕ → Intention) (above : List Line) (s : State) (I : Inv P it (history above) s) where
@@ -118,11 +118,7 @@ module _ (P : Setup) (it : ℕ → Intention) (above : List Line) (s : State) (I
 
   -- an open worker holds its order
   held_some : (x : Worker) → (is_on x.status ≡ true → is_empty x.orders ≡ false) → length x.orders ≡ queued_count_of x + cond (is_on x.status) 1 0
-  held_some x h = elim (cases_Bool (is_on x.status)) [ inl o ↦ rw o (omega (arith, full x.orders (h o))) | inr o ↦ rw o (omega arith) ]
-    where
-      full : (os : List Order) → is_empty os ≡ false → 0 < length os
-      full [] e = absurd (both_ways true e refl)
-      full (o ∷ os) e = omega arith
+  held_some x h = elim (cases_Bool (is_on x.status)) [ inl o ↦ rw o (omega (arith, drop_one x.orders (h o))) | inr o ↦ rw o (omega arith) ]
 
   -- an order is queued, open or finished
   one_of : (x : ℕ × ℕ) → 1 ≡ cond (is_queued (history above) x) 1 0 + (cond (is_open_order (history above).granted (history above).finished x) 1 0 + cond (any (eqb x.1) (history above).finished) 1 0)

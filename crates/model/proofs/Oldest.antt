@@ -1,5 +1,5 @@
 -- A worker's orders, and its oldest one: what the invariant says of them.
-use Rattle.std.proofs.Common.{◌≡◌, ℕ, suc, ◌<◌, ◌≤◌, true, false, eqb, List, [], ◌∷◌, ◌++◌, length, get_or, drop, count_by, refl, ap, ◌∙◌, subst, inl, inr, arith}
+use Rattle.std.proofs.Common.{◌≡◌, ℕ, suc, ◌+◌, ◌<◌, ◌≤◌, true, false, eqb, List, [], ◌∷◌, ◌++◌, length, get_or, drop, count_by, refl, ap, ◌∙◌, subst, inl, inr, arith}
 use Rattle.std.proofs.lemmas.Bool.{both_ways, false_from_ne_true, le-leb, cases_lt, cases_eq, cond-true}
 use Rattle.model.specs.Finding.{any}
 use Rattle.model.specs.Words.{Intention, Setup, Lawful, Shares, worker}
@@ -9,6 +9,11 @@ use Rattle.model.specs.State.{Order, Worker, State, worker_at, is_empty, oldest_
 use Rattle.model.proofs.Sharing.{worker_most}
 use Rattle.model.proofs.Needed.{need_most, need_is}
 use Rattle.model.proofs.Invariant.{Fin, Clear, NoneBetween, RightNeeds, Queue, Inv}
+
+-- orders that are not none are an oldest one and the rest
+pub drop_one : (os : List Order) → is_empty os ≡ false → length (drop 1 os) + 1 ≡ length os
+drop_one [] e = absurd (both_ways true e refl)
+drop_one (o ∷ os) e = omega arith
 
 module _ (P : Setup) (it : ℕ → Intention) (w : ℕ) where
   pub queue_most : (low : ℕ) (os : List Order) (high : ℕ) → Queue P it w low os high → low ≤ high

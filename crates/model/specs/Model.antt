@@ -44,14 +44,8 @@ append_answer P s snapshot accesses =
     (Ok (last_number s + 1))))))
 
 abbrev pub append_leaves : State → ℕ → List Access → State
-append_leaves s snapshot accesses = record {
+append_leaves s snapshot accesses = record s {
   rows = s.rows ++ record { intention = record { snapshot = snapshot; accesses = accesses }; verdict = Undecided } ∷ [];
-  assigned = s.assigned;
-  finished = s.finished;
-  workers = s.workers;
-  marks = s.marks;
-  joints = s.joints;
-  plains = s.plains;
 }
 
 abbrev pub append_after : Setup → State → ℕ → List Access → State
@@ -86,7 +80,7 @@ abbrev pub next_order : MapMeaning → State → Order
 next_order m s = record { number = next_number s; needs = map (wanted m s) (range_with_len 0 16) }
 
 abbrev pub pushed : Order → Worker → Worker
-pushed o x = record { status = x.status; posted = x.posted; orders = x.orders ++ o ∷ [] }
+pushed o x = record x { orders = x.orders ++ o ∷ [] }
 
 -- a joint order moves the last joint number of each partition that it touches
 abbrev pub joints_after_of : MapMeaning → State → List ℕ
@@ -97,12 +91,9 @@ abbrev pub plains_after_of : MapMeaning → State → List ℕ
 plains_after_of m s = cond (is_joint m (next_intention s)) s.plains (slice_set s.plains (worker m (next_intention s)) (next_number s))
 
 abbrev pub assign_leaves : Setup → State → State
-assign_leaves P s = record {
-  rows = s.rows;
+assign_leaves P s = record s {
   assigned = next_number s;
-  finished = s.finished;
   workers = slice_set s.workers (next_worker P s) (pushed (next_order P.map s) (worker_at s.workers (next_worker P s)));
-  marks = s.marks;
   joints = joints_after_of P.map s;
   plains = plains_after_of P.map s;
 }
@@ -128,7 +119,7 @@ begin_answer P s w =
     (Ok (w, (oldest_at s w).number)))))
 
 abbrev pub begun : ℕ → Worker → Worker
-begun k x = record { status = Held k; posted = x.posted; orders = x.orders }
+begun k x = record x { status = Held k }
 
 abbrev pub begin_after : Setup → State → ℕ → State
 begin_after P s w = kept (begin_answer P s w) s (λ ticket. with_worker s w (begun ticket.1 (worker_at s.workers w)))
@@ -202,14 +193,11 @@ abbrev pub posting : ℕ → Worker → Worker
 posting k x = record { status = Idle; posted = k; orders = drop 1 x.orders }
 
 abbrev pub finish_leaves : Setup → State → ℕ → ℕ → State
-finish_leaves P s w k = record {
+finish_leaves P s w k = record s {
   rows = slice_set s.rows (k - 1) (record { intention = intention_at s k; verdict = decided (passes P s k) });
-  assigned = s.assigned;
   finished = s.finished + 1;
   workers = slice_set s.workers w (posting k (worker_at s.workers w));
   marks = marks_after P s k;
-  joints = s.joints;
-  plains = s.plains;
 }
 
 abbrev pub finish_after : Setup → State → ℕ → ℕ → State

@@ -94,10 +94,10 @@ pub record History : Type 0 where
   pub finished : List ℕ
 
 abbrev pub entered : History → Event → History
-entered h (appended k x) = record { appended = (k, x) ∷ h.appended; assigned = h.assigned; granted = h.granted; finished = h.finished }
-entered h (assigned w k) = record { appended = h.appended; assigned = (w, k) ∷ h.assigned; granted = h.granted; finished = h.finished }
-entered h (granted w k) = record { appended = h.appended; assigned = h.assigned; granted = (w, k) ∷ h.granted; finished = h.finished }
-entered h (finished k) = record { appended = h.appended; assigned = h.assigned; granted = h.granted; finished = k ∷ h.finished }
+entered h (appended k x) = record h { appended = (k, x) ∷ h.appended }
+entered h (assigned w k) = record h { assigned = (w, k) ∷ h.assigned }
+entered h (granted w k) = record h { granted = (w, k) ∷ h.granted }
+entered h (finished k) = record h { finished = k ∷ h.finished }
 entered h nothing = h
 
 abbrev pub history : List Line → History

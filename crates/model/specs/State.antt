@@ -125,7 +125,7 @@ is_held_on k (Parked j) = false
 -- ⟨ what is written ⟩
 
 abbrev pub with_worker : State → ℕ → Worker → State
-with_worker s w x = record { rows = s.rows; assigned = s.assigned; finished = s.finished; workers = slice_set s.workers w x; marks = s.marks; joints = s.joints; plains = s.plains }
+with_worker s w x = record s { workers = slice_set s.workers w x }
 
 abbrev pub in_status : Status → Worker → Worker
-in_status status x = record { status = status; posted = x.posted; orders = x.orders }
+in_status status x = record x { status = status }
