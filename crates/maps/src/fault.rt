@@ -12,6 +12,7 @@ pub enum MapFault {
     Entry(usize),
 }
 
+// Methods of each enum of refusals and no trait: some return one value and some two, and nothing is generic over them.
 impl MapFault {
     // The number of the cause.
     pub fn cause(self) -> u8

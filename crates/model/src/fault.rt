@@ -38,6 +38,7 @@ pub enum CallFault {
     UnknownNumber(u16),
 }
 
+// Methods of each enum of refusals and no trait: some return one value and some two, and nothing is generic over them.
 impl CallFault {
     // The number of the cause.
     pub fn cause(self) -> u8

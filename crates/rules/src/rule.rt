@@ -6,14 +6,14 @@ pub trait ClashRule {
     // How many modes the rule knows: they are the numbers below this one.
     const MODES: u8;
 
-    // The same count, for clauses and laws.
+    // The same count, for clauses and laws. Each rule gives it, since what a trait gives does not compute in a rule's laws.
     ghost MODES: { ℕ };
 
     // The rule's meaning, which code above the rule is proved against. It belongs to the type and not to a value,
     // so asking cannot change it.
     ghost meaning: { RuleMeaning };
 
-    // Whether an earlier mode and a later one clash by the rule's relation, which means something for modes that it knows.
+    // Whether an earlier mode and a later one clash, for modes that the rule knows.
     fn relates(&self, earlier: u8, later: u8) -> bool
         ensures { result ≡ meaning.relation earlier later };
 

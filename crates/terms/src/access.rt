@@ -1,6 +1,7 @@
 // What an intention did to a setting.
 
 // A mode is a number and no enum, since a rule may know up to four modes and a frame may bring any number.
+
 // Reads the setting.
 pub const READ: u8 = 0;
 
