@@ -1,5 +1,8 @@
 // How many partitions the cells are spread over.
 ghost use Rattle.std.specs.Prelude.{◌≡◌, ◌≤◌};
+ghost use Rattle.terms.specs.Numbers.{within};
+ghost use Rattle.terms.specs.Refusals.{ok_as};
+ghost use Rattle.maps.specs.Layouts.{make_answer};
 
 use super::fault::MapFault;
 use terms::MOST_PARTITIONS;
@@ -22,8 +25,6 @@ impl Partitions {
         self.count
     }
 
-    ghost use Rattle.terms.specs.Numbers.{within};
-
     // Partitions are numbered from 1, and 0 is none.
     pub fn contain(self, partition: u8) -> bool
         ensures { result ≡ within 1 self.count partition }
@@ -34,9 +35,6 @@ impl Partitions {
 
 impl TryFrom<u8> for Partitions {
     type Error = MapFault;
-
-    ghost use Rattle.terms.specs.Refusals.{ok_as};
-    ghost use Rattle.maps.specs.Layouts.{make_answer};
 
     ghost try_from_gives = { λ n made. ok_as (λ p. p.count) made ≡ make_answer n };
 
