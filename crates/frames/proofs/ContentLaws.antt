@@ -1,16 +1,20 @@
 -- What a frame says and its bytes undo each other.
-use Rattle.std.proofs.Common.{◌≡◌, ℕ, zero, suc, ◌+◌, ◌-◌, ◌*◌, ◌/◌, ◌%◌, ◌<◌, ◌≤◌, Bool, true, cond, ◌&&◌, eqb, leb, List, [], ◌∷◌, length, get_or, drop, Some, None, Ok, Err, Option, sym, refl, ap, ◌∙◌, subst, inl, inr, arith}
+use Rattle.std.proofs.Common.{◌≡◌, ℕ, zero, suc, ◌+◌, ◌-◌, ◌*◌, ◌/◌, ◌%◌, ◌<◌, ◌≤◌, Bool, true, cond, eqb, leb, List, [], ◌∷◌, length, get_or, drop, Some, None, Ok, Err, Option, Result, sym, refl, ap, ◌∙◌, subst, inl, inr, arith}
 use Rattle.std.proofs.lemmas.List.{drop_more, drop_all, length-drop}
 use Rattle.std.proofs.lemmas.Bool.{cases_Bool, cond-true, cond-false, eq-eqb, ne_eqb, le-leb, and_from, and_parts, eqb-true, leb-true}
 use Rattle.std.proofs.lemmas.Bool.Decides.{nat_tests}
 use Rattle.std.specs.Option.{ok_or}
 use Rattle.terms.specs.declared.access.Access.{Access}
-use Rattle.frames.specs.declared.fault.LineFault.TheVariants.{Empty}
+use Rattle.frames.specs.declared.fault.LineFault.{LineFault}
+use Rattle.frames.specs.declared.fault.LineFault.TheVariants.{Empty, WrongLength}
+use Rattle.frames.specs.declared.kind.Kind.{Kind}
+use Rattle.frames.specs.declared.kind.Kind.TheVariants.{Append, Assign, BeginPark, ResumeFinish, Verdict, Tally, SetUpResidue, SetUpListed}
+use Rattle.frames.specs.Kinds.{byte_of, kind_from}
 use Rattle.frames.specs.Hex.{Bytes}
 use Rattle.terms.specs.Accesses.{access}
 use Rattle.frames.specs.Contents.{Content, access_bytes, bytes_of, no_line_of, AccessesFit, Writable}
 use Rattle.frames.specs.Contents.Content.{append, assign, begin_park, resume_finish, verdict, tally, set_up_residue, set_up_listed}
-use Rattle.frames.specs.Reading.{pair_at, accesses_in, append_sized, said_in, misfit, frame_in}
+use Rattle.frames.specs.Reading.{pair_at, accesses_in, append_sized, said_in, frame_with, frame_in}
 
 -- ⟨ from what a frame says to its bytes and back ⟩
 
@@ -48,16 +52,17 @@ bytes-bytes_of (set_up_residue r n) h = (omega arith, (h.fit.0, (h.fit.1, tt)))
 bytes-bytes_of (set_up_listed r n t) h = (omega arith, (h.fit.0, (h.fit.1, h.fit.2)))
 
 -- a row that is not empty is read by its kind
-by_kind : (bs : List ℕ) (f : Content) → 0 < length bs → said_in (get_or bs 0 0) bs ≡ Some f → frame_in bs ≡ Ok f
-by_kind bs f h e =
-    cond-false _ _ _ (ne_eqb (length bs) 0 (λ z. omega arith)) ∙ ap (λ (o : Option Content). ok_or o (misfit (get_or bs 0 0) (length bs))) e
+by_kind : (bs : List ℕ) (kind : Kind) (f : Content) → 0 < length bs → kind_from (get_or bs 0 0) ≡ Ok kind → said_in kind bs ≡ Some f → frame_in bs ≡ Ok f
+by_kind bs kind f h k e =
+    cond-false _ _ _ (ne_eqb (length bs) 0 (λ z. omega arith))
+    ∙ (ap (λ (r : Result Kind LineFault). frame_with r bs) k ∙ ap (λ (o : Option Content). ok_or o (WrongLength (length bs))) e)
 
 pub frame_in-bytes_of : (f : Content) → Writable f → frame_in (bytes_of f) ≡ Ok f
 frame_in-bytes_of (append s xs) h =
     let e : 256 * (s / 256) + s % 256 ≡ s = let p = h.fit.0 in omega arith in
     let f = accesses_in-access_bytes xs h.fit.1 in
     let t : append_sized (bytes_of (append s xs)) ≡ true = and_from _ _ (le-leb _ _ (few_accesses s xs h.held)) (eq-eqb (length (bytes_of (append s xs))) (4 + 3 * length xs) (omega (arith, length-access_bytes xs))) in
-    by_kind (bytes_of (append s xs)) (append s xs) (omega arith) (cond-true _ _ _ t ∙ cc)
+    by_kind (bytes_of (append s xs)) Append (append s xs) (omega arith) refl (cond-true _ _ _ t ∙ cc)
 frame_in-bytes_of assign h = refl
 frame_in-bytes_of (begin_park w) h = refl
 frame_in-bytes_of (resume_finish w) h = refl
@@ -66,7 +71,7 @@ frame_in-bytes_of tally h = refl
 frame_in-bytes_of (set_up_residue r n) h = refl
 frame_in-bytes_of (set_up_listed r n t) h =
     let p = whole_table r n t h.held in
-    by_kind (bytes_of (set_up_listed r n t)) (set_up_listed r n t) (omega arith) (cond-true _ _ _ (eq-eqb (length (bytes_of (set_up_listed r n t))) 1027 (omega arith)))
+    by_kind (bytes_of (set_up_listed r n t)) SetUpListed (set_up_listed r n t) (omega arith) refl (cond-true _ _ _ (eq-eqb (length (bytes_of (set_up_listed r n t))) 1027 (omega arith)))
 
 -- ⟨ from bytes to what the frame says and back ⟩
 
@@ -94,31 +99,35 @@ access_bytes-accesses_in n (m ∷ k ∷ l ∷ bs) (p, (q, (r, h))) e =
     let y : (256 * k + l) % 256 ≡ l = omega arith in
     (omega arith, (p, omega arith, v), cc)
 
--- one kind of the table: what holds of the frame g of that kind, and of all that the later kinds give, holds of what is read
-kind_step : (P : Content → Type 0) (k n : ℕ) (t : Bool) (g f : Content) (later : Option Content) → cond (eqb k n && t) (Some g) later ≡ Some f → (k ≡ n → t ≡ true → P g) → (later ≡ Some f → P f) → P f
-kind_step P k n t g f later h here there =
-    elim (cases_Bool (eqb k n && t)) [
-      | inl e ↦
-          let (p, q) = and_parts (eqb k n) t e in
-          let a = cond-true (eqb k n && t) (Some g) later e in
-          let s : g ≡ f = cc in
-          subst P s (here (eqb-true k n p) q)
-      | inr e ↦ there (sym (cond-false (eqb k n && t) (Some g) later e) ∙ h)
-    ]
+-- a kind is found by its byte
+pub kind_is : (byte : ℕ) (kind : Kind) → kind_from byte ≡ Ok kind → byte ≡ byte_of kind
+kind_is byte Append h = grind (arith, nat_tests)
+kind_is byte Assign h = grind (arith, nat_tests)
+kind_is byte BeginPark h = grind (arith, nat_tests)
+kind_is byte ResumeFinish h = grind (arith, nat_tests)
+kind_is byte Verdict h = grind (arith, nat_tests)
+kind_is byte Tally h = grind (arith, nat_tests)
+kind_is byte SetUpResidue h = grind (arith, nat_tests)
+kind_is byte SetUpListed h = grind (arith, nat_tests)
 
 -- a row of bytes that reads is the frame's row
 pub bytes_of-frame_in : (bs : List ℕ) (f : Content) → Bytes bs → frame_in bs ≡ Ok f → Writable f × (bytes_of f ≡ bs)
 bytes_of-frame_in bs f h e =
     elim (cases_Bool (eqb (length bs) 0)) [
-      | inl z ↦ absurd (let a = cond-true (eqb (length bs) 0) (Err Empty) (ok_or (said_in (get_or bs 0 0) bs) (misfit (get_or bs 0 0) (length bs))) z in let y : ◌≡◌ {A = ℕ} 0 1 = cc in omega arith)
-      | inr z ↦ some (said_in (get_or bs 0 0) bs) refl (sym (cond-false (eqb (length bs) 0) (Err Empty) (ok_or (said_in (get_or bs 0 0) bs) (misfit (get_or bs 0 0) (length bs))) z) ∙ e)
+      | inl z ↦ absurd (let a = cond-true (eqb (length bs) 0) (Err Empty) (frame_with (kind_from (get_or bs 0 0)) bs) z in let y : ◌≡◌ {A = ℕ} 0 1 = cc in omega arith)
+      | inr z ↦ found (kind_from (get_or bs 0 0)) refl (sym (cond-false (eqb (length bs) 0) (Err Empty) (frame_with (kind_from (get_or bs 0 0)) bs) z) ∙ e)
     ]
   where
     P : Content → Type 0
     P g = Writable g × (bytes_of g ≡ bs)
 
-    step : (n : ℕ) (t : Bool) (g : Content) (later : Option Content) → cond (eqb (get_or bs 0 0) n && t) (Some g) later ≡ Some f → (get_or bs 0 0 ≡ n → t ≡ true → P g) → (later ≡ Some f → P f) → P f
-    step n t g later = kind_step P (get_or bs 0 0) n t g f later
+    -- a kind says something only of a row of its length
+    said : (t : Bool) (g : Content) → cond t (Some g) None ≡ Some f → (t ≡ true → P g) → P f
+    said t g e here =
+        elim (cases_Bool t) [
+          | inl p ↦ let a = cond-true t (Some g) None p in let s : g ≡ f = cc in subst P s (here p)
+          | inr p ↦ absurd (let a = cond-false t (Some g) None p in let z : ◌≡◌ {A = ℕ} 0 1 = cc in omega arith)
+        ]
 
     -- a row of one byte
     one : (k : ℕ) → get_or bs 0 0 ≡ k → eqb (length bs) 1 ≡ true → k ∷ [] ≡ bs
@@ -181,24 +190,33 @@ bytes_of-frame_in bs f h e =
         let l = le-leb (length (accesses_in (drop 4 bs))) 8 (omega arith) in
         (record { held = cond-true _ _ _ l; fit = (omega arith, fits) }, cc)
 
-    kinds : said_in (get_or bs 0 0) bs ≡ Some f → P f
-    kinds e =
-        step 1 (append_sized bs) (append (pair_at bs 1) (accesses_in (drop 4 bs))) _ e for_append
-        (λ e. step 2 (eqb (length bs) 1) assign _ e (λ k n. (record { held = refl; fit = tt }, one 2 k n))
-        (λ e. step 3 (eqb (length bs) 2) (begin_park (get_or bs 1 0)) _ e (for_worker 3 begin_park (λ w l. record { held = refl; fit = l }) (λ w. refl))
-        (λ e. step 4 (eqb (length bs) 2) (resume_finish (get_or bs 1 0)) _ e (for_worker 4 resume_finish (λ w l. record { held = refl; fit = l }) (λ w. refl))
-        (λ e. step 5 (eqb (length bs) 3) (verdict (pair_at bs 1)) _ e for_verdict
-        (λ e. step 6 (eqb (length bs) 1) tally _ e (λ k n. (record { held = refl; fit = tt }, one 6 k n))
-        (λ e. step 16 (eqb (length bs) 3) (set_up_residue (get_or bs 1 0) (get_or bs 2 0)) _ e for_residue
-        (λ e. step 17 (eqb (length bs) 1027) (set_up_listed (get_or bs 1 0) (get_or bs 2 0) (drop 3 bs)) _ e for_listed
-        (λ e. absurd (let z : ◌≡◌ {A = ℕ} 0 1 = cc in omega arith)))))))))
+    by : (kind : Kind) → get_or bs 0 0 ≡ byte_of kind → said_in kind bs ≡ Some f → P f
+    by Append k e = said _ _ e (for_append k)
+    by Assign k e = said _ _ e (λ n. (record { held = refl; fit = tt }, one 2 k n))
+    by BeginPark k e = said _ _ e (for_worker 3 begin_park (λ w l. record { held = refl; fit = l }) (λ w. refl) k)
+    by ResumeFinish k e = said _ _ e (for_worker 4 resume_finish (λ w l. record { held = refl; fit = l }) (λ w. refl) k)
+    by Verdict k e = said _ _ e (for_verdict k)
+    by Tally k e = said _ _ e (λ n. (record { held = refl; fit = tt }, one 6 k n))
+    by SetUpResidue k e = said _ _ e (for_residue k)
+    by SetUpListed k e = said _ _ e (for_listed k)
 
-    some : (o : Option Content) → said_in (get_or bs 0 0) bs ≡ o → ok_or o (misfit (get_or bs 0 0) (length bs)) ≡ Ok f → P f
-    some None p q = absurd (let z : ◌≡◌ {A = ℕ} 0 1 = cc in omega arith)
-    some (Some g) p q = let s : g ≡ f = cc in kinds (p ∙ ap (λ (x : Content). Some x) s)
+    whole : (kind : Kind) (o : Option Content) → get_or bs 0 0 ≡ byte_of kind → said_in kind bs ≡ o → ok_or o (WrongLength (length bs)) ≡ Ok f → P f
+    whole kind None k p q = absurd (let z : ◌≡◌ {A = ℕ} 0 1 = cc in omega arith)
+    whole kind (Some g) k p q = let s : g ≡ f = cc in by kind k (p ∙ ap (λ (x : Content). Some x) s)
+
+    found : (r : Result Kind LineFault) → kind_from (get_or bs 0 0) ≡ r → frame_with r bs ≡ Ok f → P f
+    found (Err x) p q = absurd (let z : ◌≡◌ {A = ℕ} 0 1 = cc in omega arith)
+    found (Ok kind) p q = whole kind (said_in kind bs) (kind_is (get_or bs 0 0) kind p) refl q
 
 -- ⟨ rows that no kind fits ⟩
 
 -- a row that is longer than any frame
-pub longer_than_any : (k : ℕ) (bs : List ℕ) → 1027 < length bs → said_in k bs ≡ None
-longer_than_any k bs h = grind (arith, nat_tests)
+pub longer_than_any : (kind : Kind) (bs : List ℕ) → 1027 < length bs → said_in kind bs ≡ None
+longer_than_any Append bs h = grind (arith, nat_tests)
+longer_than_any Assign bs h = grind (arith, nat_tests)
+longer_than_any BeginPark bs h = grind (arith, nat_tests)
+longer_than_any ResumeFinish bs h = grind (arith, nat_tests)
+longer_than_any Verdict bs h = grind (arith, nat_tests)
+longer_than_any Tally bs h = grind (arith, nat_tests)
+longer_than_any SetUpResidue bs h = grind (arith, nat_tests)
+longer_than_any SetUpListed bs h = grind (arith, nat_tests)

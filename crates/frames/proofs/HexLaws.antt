@@ -1,9 +1,11 @@
 -- Bytes and their digits undo each other.
-use Rattle.std.proofs.Common.{◌≡◌, ℕ, zero, suc, ◌+◌, ◌*◌, ◌/◌, ◌%◌, ◌<◌, true, List, [], ◌∷◌, length, get_or, drop, refl, ap, ◌∙◌, inl, inr, arith}
+use Rattle.std.proofs.Common.{◌≡◌, ℕ, zero, suc, ◌+◌, ◌*◌, ◌/◌, ◌%◌, ◌<◌, true, false, cond, List, [], ◌∷◌, length, get_or, drop, Some, None, sym, refl, ap, ◌∙◌, inl, inr, arith}
+use Rattle.std.proofs.lemmas.List.{get_or-take, get_or-drop}
 use Rattle.std.proofs.lemmas.List.Sums.{prefix_len-drop_yes}
 use Rattle.std.proofs.lemmas.Bool.{cases_Bool, cond-true, cond-false}
 use Rattle.std.proofs.lemmas.Bool.Decides.{nat_tests}
 use Rattle.std.specs.List.{prefix_len}
+use Rattle.std.specs.Simd.{first_chunks}
 use Rattle.frames.specs.Hex.{hex_digit_of, is_hex_digit, hex_value_of, hex_of, bytes_in, Bytes}
 
 pub digit_is : (v : ℕ) → v < 16 → is_hex_digit (hex_digit_of v) ≡ true
@@ -17,6 +19,22 @@ value_digit c h = grind (arith, nat_tests)
 
 pub value_below : (c : ℕ) → is_hex_digit c ≡ true → hex_value_of c < 16
 value_below c h = grind (arith, nat_tests)
+
+-- a character d, which is c, is found to have the value v
+pub found_digit : (d c v : ℕ) → d ≡ c → Some v ≡ cond (is_hex_digit d) (Some (hex_value_of d)) None → (is_hex_digit c ≡ true) × (v ≡ hex_value_of c)
+found_digit d c v e h =
+    elim (cases_Bool (is_hex_digit d)) [
+      | inl p ↦ let a = cond-true (is_hex_digit d) (Some (hex_value_of d)) None p in (ap is_hex_digit (sym e) ∙ p, cc)
+      | inr p ↦ absurd (let a = cond-false (is_hex_digit d) (Some (hex_value_of d)) None p in let z : ◌≡◌ {A = ℕ} 0 1 = cc in omega arith)
+    ]
+
+-- and to have none
+pub found_none : (d c : ℕ) → d ≡ c → None ≡ cond (is_hex_digit d) (Some (hex_value_of d)) None → is_hex_digit c ≡ false
+found_none d c e h =
+    elim (cases_Bool (is_hex_digit d)) [
+      | inl p ↦ absurd (let a = cond-true (is_hex_digit d) (Some (hex_value_of d)) None p in let z : ◌≡◌ {A = ℕ} 0 1 = cc in omega arith)
+      | inr p ↦ ap is_hex_digit (sym e) ∙ p
+    ]
 
 pub length-hex_of : (bs : List ℕ) → length (hex_of bs) ≡ 2 * length bs
 length-hex_of [] = refl
@@ -83,3 +101,17 @@ digits_more line i h p q =
     let e : 2 * i + 1 + 1 ≡ 2 * (i + 1) = omega arith in
     let f = ap (λ (n : ℕ). prefix_len is_hex_digit (drop n line)) e in
     omega arith
+
+-- item j of the chunk at place i
+chunk_item : (n k i j : ℕ) (xs : List ℕ) → i < k → j < n → get_or (get_or (first_chunks n k xs) i []) j 0 ≡ get_or xs (n * i + j) 0
+chunk_item n zero i j xs h l = absurd (omega arith)
+chunk_item n (suc k) zero j xs h l =
+    let e : j ≡ n * 0 + j = omega arith in
+    get_or-take n xs j 0 l ∙ ap (λ (m : ℕ). get_or xs m 0) e
+chunk_item n (suc k) (suc i) j xs h l =
+    let e : n + (n * i + j) ≡ n * suc i + j = omega arith in
+    chunk_item n k i j (drop n xs) (omega arith) l ∙ (get_or-drop n xs (n * i + j) 0 ∙ ap (λ (m : ℕ). get_or xs m 0) e)
+
+pub chunk_at : (n k i j m : ℕ) (xs : List ℕ) (chunks : List (List ℕ)) → chunks ≡ first_chunks n k xs → i < k → j < n → n * i + j ≡ m → get_or (get_or chunks i []) j 0 ≡ get_or xs m 0
+chunk_at n k i j m xs chunks e h l f =
+    ap (λ (cs : List (List ℕ)). get_or (get_or cs i []) j 0) e ∙ (chunk_item n k i j xs h l ∙ ap (λ (m : ℕ). get_or xs m 0) f)

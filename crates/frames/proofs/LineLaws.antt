@@ -1,6 +1,8 @@
 -- The lines of an input, one after another.
-use Rattle.std.proofs.Common.{◌≡◌, ℕ, suc, ◌+◌, ◌<◌, true, false, cond, List, [], ◌∷◌, length, take, drop, refl, ap, ◌∙◌, arith}
-use Rattle.std.proofs.lemmas.List.{length-drop}
+use Rattle.std.proofs.Common.{◌≡◌, ℕ, suc, ◌+◌, ◌-◌, ◌<◌, true, false, cond, List, [], ◌∷◌, length, take, drop, Some, None, position, ◌==◌, refl, ap, ◌∙◌, arith}
+use Rattle.std.proofs.lemmas.List.{take_all, take_rest, drop_all}
+use Rattle.std.proofs.lemmas.List.Sums.{prefix_len-le-length}
+use Rattle.std.proofs.lemmas.Bool.Decides.{nat_tests}
 use Rattle.frames.specs.Lines.{not_feed, in_front, lines_of, first_length_of}
 
 -- the first line of what begins with c, and the rest
@@ -21,6 +23,20 @@ pub lines_first : (cs : List ℕ) → 0 < length cs → lines_of cs ≡ take (fi
 lines_first [] h = absurd (omega arith)
 lines_first (c ∷ cs) h = lines_more c cs
 
--- a cut after the first line feed leaves the other lines, and fewer characters
-pub cut : (cs line rest : List ℕ) → line ≡ take (first_length_of cs) cs → rest ≡ drop (first_length_of cs + 1) cs → (0 < length cs → lines_of cs ≡ line ∷ lines_of rest) × (0 < length cs → length rest < length cs)
-cut cs line rest e f = (λ h. let l = lines_first cs h in cc, λ h. omega (arith, ap length f, length-drop (first_length_of cs + 1) cs))
+-- where the first line feed stands at this place, a line ends there
+pub cut_at : (cs : List ℕ) (end : ℕ) → Some end ≡ position (λ c. c == 10) cs → 0 < length cs → lines_of cs ≡ take end cs ∷ lines_of (take (length cs - (end + 1)) (drop (end + 1) cs))
+cut_at cs end f h =
+    let e : first_length_of cs ≡ end = grind (arith, nat_tests) in
+    let l = lines_first cs h in
+    let r = take_rest cs (end + 1) in
+    cc
+
+-- where there is none, the line is all there is
+pub uncut : (cs : List ℕ) → None ≡ position (λ c. c == 10) cs → 0 < length cs → lines_of cs ≡ cs ∷ []
+uncut cs f h =
+    let most = prefix_len-le-length not_feed cs in
+    let e : first_length_of cs ≡ length cs = grind (arith, nat_tests) in
+    let l = lines_first cs h in
+    let t = take_all (first_length_of cs) cs (omega arith) in
+    let d = drop_all (first_length_of cs + 1) cs (omega arith) in
+    cc

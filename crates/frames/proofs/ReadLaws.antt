@@ -1,48 +1,70 @@
 -- The way from a line's characters to its bytes.
-use Rattle.std.proofs.Common.{◌≡◌, ℕ, ◌+◌, ◌/◌, ◌%◌, ◌<◌, ◌≤◌, false, eqb, ltb, List, length, get_or, take, set, Err, Option, sym, ap, ◌∙◌, inl, inr, arith}
-use Rattle.std.proofs.lemmas.List.{get_or-set_same, get_or-set_other, get_or-take, length-set, length-take-le, ext_get_or}
-use Rattle.std.proofs.lemmas.Bool.{cases_eq, cond-false, ne_eqb}
-use Rattle.std.specs.Option.{ok_or}
+use Rattle.std.proofs.Common.{◌≡◌, ◌≢◌, ◌↔◌, ℕ, ◌+◌, ◌/◌, ◌%◌, ◌<◌, ◌≤◌, List, [], ◌∷◌, ◌++◌, length, get_or, slice_get, take, nat_lt, lit<, Some, None, Ok, Err, IsOk, OnOk, OnErr, Option, Result, option_map, ok_or, sym, refl, ap, ◌∙◌, arith}
+use Rattle.std.proofs.lemmas.List.{get_or-take, length-take, take_more, take_all}
+use Rattle.std.proofs.lemmas.Bool.{cond-true, cond-false, lt-ltb, ne_eqb}
 use Rattle.std.specs.List.{prefix_len}
+use Rattle.terms.specs.Refusals.{refuse, ok_as}
+use Rattle.frames.specs.declared.fault.LineFault.{LineFault}
+use Rattle.frames.specs.declared.fault.LineFault.TheVariants.{NotHexadecimal, Empty, WrongLength}
+use Rattle.frames.specs.declared.frame.Frame.{Frame}
+use Rattle.frames.specs.declared.kind.Kind.{Kind}
 use Rattle.frames.specs.Contents.{Content}
+use Rattle.frames.specs.Held.{content_of}
 use Rattle.frames.specs.Hex.{is_hex_digit, bytes_in}
-use Rattle.frames.specs.Reading.{Decoded, misfit, frame_in, read_answer}
+use Rattle.frames.specs.Kinds.{kind_from}
+use Rattle.frames.specs.Reading.{said_in, frame_with, read_answer}
 use Rattle.frames.proofs.HexLaws.{length-bytes_in}
 use Rattle.frames.proofs.ContentLaws.{longer_than_any}
+use Rattle.frames.proofs.RoundTripLaws.{passed}
+use Rattle.arrayvec.specs.ArrayVec.{ArrayVec, array_vec_len}
 
--- the bytes before place i are in the row, as far as it goes
-abbrev pub Sofar : List ℕ → List ℕ → ℕ → Type 0
-Sofar bs row i = (k : ℕ) → k < i → k < length row → get_or row k 0 ≡ get_or bs k 0
+-- one more byte is in the row, if it has a place there
+pub row_more : {E : Type 0} (most : ℕ) (bs : List ℕ) (i x : ℕ) (r : Result (Unit {0}) E) (old new : ArrayVec ℕ) → i < length bs → x ≡ get_or bs i 0 → old.items ≡ take i (take most bs) → (IsOk r ↔ (array_vec_len old < most)) → OnOk r (new.items ≡ old.items ++ x ∷ []) → OnErr r (new ≡ old) → OnErr r (array_vec_len old ≡ most) → new.items ≡ take (i + 1) (take most bs)
+row_more most bs i x (Ok u) old new h e inv room put same full =
+    let l = room.0 refl in
+    let m = ap length inv in
+    let p = length-take i (take most bs) in
+    let q = length-take most bs in
+    let n : i < length (take most bs) = omega arith in
+    let g = get_or-take most bs i 0 (omega arith) in
+    let t = take_more (take most bs) i 0 n in
+    cc
+row_more most bs i x (Err u) old new h e inv room put same full =
+    let m = ap length inv in
+    let p = length-take i (take most bs) in
+    let q = length-take most bs in
+    ap (λ (v : ArrayVec ℕ). v.items) same ∙ (inv ∙ (take_all i (take most bs) (omega arith) ∙ sym (take_all (i + 1) (take most bs) (omega arith))))
 
--- one more byte is in the row
-pub row_set : (bs row row' : List ℕ) (i b : ℕ) → Sofar bs row i → row' ≡ set row i b → b ≡ get_or bs i 0 → Sofar bs row' (i + 1)
-row_set bs row row' i b h e f k l m =
-    let n : length row' ≡ length row = ap length e ∙ length-set row i b in
-    ap (λ (r : List ℕ). get_or r k 0) e
-    ∙ elim (cases_eq k i) [
-      | inl p ↦ ap (λ (j : ℕ). get_or (set row i b) j 0) p ∙ (get_or-set_same row i b 0 (omega arith) ∙ (f ∙ ap (λ (j : ℕ). get_or bs j 0) (sym p)))
-      | inr p ↦ get_or-set_other row i k b 0 p ∙ h k (omega (arith, p)) (omega arith)
-    ]
+-- the place of the first character that is no digit, which a line is refused with
+pub refused_at : (line : List ℕ) (n : ℕ) → prefix_len is_hex_digit line ≡ n → n < length line → ◌≡◌ {A = Result (Unit {0}) LineFault} (Err (NotHexadecimal n)) (refuse (nat_lt (prefix_len is_hex_digit line) (length line)) (NotHexadecimal (prefix_len is_hex_digit line)) (Ok tt))
+refused_at line n e h = sym (cond-true _ _ _ (lt-ltb (prefix_len is_hex_digit line) (length line) (omega arith)) ∙ ap (λ (k : ℕ). Err (NotHexadecimal k)) e)
 
--- one more byte has no place in the row
-pub row_full : (bs row row' : List ℕ) (i : ℕ) → Sofar bs row i → row' ≡ row → length row ≤ i → Sofar bs row' (i + 1)
-row_full bs row row' i h e f k l m =
-    let n = ap length e in
-    ap (λ (r : List ℕ). get_or r k 0) e ∙ h k (omega arith) (omega arith)
+-- what is read of a line of digits, by the row of its bytes
+pub read_as : (line row : List ℕ) (kind : Kind) (first : ℕ) (u : Unit {0}) → length line % 2 ≢ 1 → ◌≡◌ {A = Result (Unit {0}) LineFault} (Ok u) (refuse (nat_lt (prefix_len is_hex_digit line) (length line)) (NotHexadecimal (prefix_len is_hex_digit line)) (Ok tt)) → row ≡ take 1027 (bytes_in line) → Some first ≡ slice_get row 0 → Ok kind ≡ kind_from first → read_answer line ≡ ok_or (said_in kind (bytes_in line)) (WrongLength (length line / 2))
+read_as line [] kind first u odd bad e f k = absurd (let z : ◌≡◌ {A = ℕ} 0 1 = cc in omega arith)
+read_as line (b ∷ bs) kind first u odd bad e f k =
+    let n = length-bytes_in line in
+    let m = ap length e in
+    let t = length-take 1027 (bytes_in line) in
+    let g : b ≡ get_or (bytes_in line) 0 0 = ap (λ (row : List ℕ). get_or row 0 0) e ∙ get_or-take 1027 (bytes_in line) 0 0 (lit< tt) in
+    let p : kind_from (get_or (bytes_in line) 0 0) ≡ Ok kind = cc in
+    cond-false _ _ _ (ne_eqb _ _ odd)
+    ∙ (cond-false _ _ _ (passed (nat_lt (prefix_len is_hex_digit line) (length line)) (NotHexadecimal (prefix_len is_hex_digit line)) (Ok tt) u (sym bad)).0
+    ∙ (cond-false _ (Err Empty) (frame_with (kind_from (get_or (bytes_in line) 0 0)) (bytes_in line)) (ne_eqb (length (bytes_in line)) 0 (λ z. omega arith))
+    ∙ (ap (λ (r : Result Kind LineFault). frame_with r (bytes_in line)) p
+    ∙ ap (λ (len : ℕ). ok_or (said_in kind (bytes_in line)) (WrongLength len)) n)))
 
--- a row with room for all of them starts with the bytes of the line
-pub row_whole : (line row : List ℕ) (n : ℕ) → Decoded line row → n ≡ length line / 2 → n ≤ length row → take n row ≡ bytes_in line
-row_whole line row n h e f =
-    let l = length-bytes_in line in
-    let m = length-take-le n row f in
-    ext_get_or 0 (take n row) (bytes_in line) (omega arith) (λ i p. get_or-take n row i 0 (omega arith) ∙ h i (omega arith) (omega arith))
+-- a line that is longer than any
+pub read_long : (line : List ℕ) (kind : Kind) → read_answer line ≡ ok_or (said_in kind (bytes_in line)) (WrongLength (length line / 2)) → 1027 < length line / 2 → Err (WrongLength (length line / 2)) ≡ read_answer line
+read_long line kind e h = sym (e ∙ ap (λ (o : Option Content). ok_or o (WrongLength (length line / 2))) (longer_than_any kind (bytes_in line) (omega (arith, length-bytes_in line))))
 
--- a line of digits says what its bytes say
-pub by_bytes : (line : List ℕ) → eqb (length line % 2) 1 ≡ false → ltb (prefix_len is_hex_digit line) (length line) ≡ false → read_answer line ≡ frame_in (bytes_in line)
-by_bytes line odd bad = cond-false _ _ _ odd ∙ cond-false _ _ _ bad
-
--- and has the wrong length for its kind, or a kind that no frame has, if it is longer than any frame
-pub too_long : (bs : List ℕ) → 1027 < length bs → frame_in bs ≡ Err (misfit (get_or bs 0 0) (length bs))
-too_long bs h =
-    cond-false _ _ _ (ne_eqb (length bs) 0 (λ z. omega arith))
-    ∙ ap (λ (o : Option Content). ok_or o (misfit (get_or bs 0 0) (length bs))) (longer_than_any (get_or bs 0 0) bs h)
+-- and one whose bytes are all in the row
+pub read_whole : (line row : List ℕ) (kind : Kind) (o : Option Frame) → read_answer line ≡ ok_or (said_in kind (bytes_in line)) (WrongLength (length line / 2)) → row ≡ take 1027 (bytes_in line) → length line / 2 ≤ 1027 → option_map content_of o ≡ said_in kind row → ok_as content_of (ok_or o (WrongLength (length line / 2))) ≡ read_answer line
+read_whole line row kind o e f h s =
+    let t = take_all 1027 (bytes_in line) (omega (arith, length-bytes_in line)) in
+    let r : row ≡ bytes_in line = f ∙ t in
+    seen o ∙ (ap (λ (p : Option Content). ok_or p (WrongLength (length line / 2))) (s ∙ ap (said_in kind) r) ∙ sym e)
+  where
+    seen : (o : Option Frame) → ok_as content_of (ok_or o (WrongLength (length line / 2))) ≡ ok_or (option_map content_of o) (WrongLength (length line / 2))
+    seen None = refl
+    seen (Some x) = refl

@@ -1,6 +1,7 @@
 pub mod Hex
 pub mod Contents
 pub mod Faults
+pub mod Kinds
 pub mod Reading
 pub mod Writing
 pub mod Held

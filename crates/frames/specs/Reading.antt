@@ -1,14 +1,16 @@
 -- What the characters of a line, those before its line feed, are read as. Assumes nothing.
-use Rattle.std.specs.Prelude.{◌≡◌, ℕ, ◌+◌, ◌*◌, ◌%◌, ◌<◌, Bool, cond, ◌&&◌, ◌||◌, List, [], ◌∷◌, length, drop, Some, None, Option, Result, ◌==◌, nat_le, nat_lt, slice_index}
+use Rattle.std.specs.Prelude.{ℕ, ◌+◌, ◌*◌, ◌%◌, Bool, cond, ◌&&◌, List, [], ◌∷◌, length, drop, Some, None, Ok, Err, Option, Result, ◌==◌, nat_le, nat_lt, slice_index}
 use Rattle.std.specs.List.{prefix_len}
 use Rattle.std.specs.Option.{ok_or}
 use Rattle.terms.specs.declared.access.Access.{Access}
-use Rattle.terms.specs.Numbers.{within}
 use Rattle.terms.specs.Refusals.{refuse}
 use Rattle.frames.specs.declared.fault.LineFault.{LineFault}
-use Rattle.frames.specs.declared.fault.LineFault.TheVariants.{OddCount, NotHexadecimal, Empty, UnknownKind, WrongLength}
+use Rattle.frames.specs.declared.fault.LineFault.TheVariants.{OddCount, NotHexadecimal, Empty, WrongLength}
+use Rattle.frames.specs.declared.kind.Kind.{Kind}
+use Rattle.frames.specs.declared.kind.Kind.TheVariants.{Append, Assign, BeginPark, ResumeFinish, Verdict, Tally, SetUpResidue, SetUpListed}
 use Rattle.frames.specs.Hex.{is_hex_digit, bytes_in}
 use Rattle.terms.specs.Accesses.{access}
+use Rattle.frames.specs.Kinds.{kind_from}
 use Rattle.frames.specs.Contents.{Content}
 use Rattle.frames.specs.Contents.Content.{append, assign, begin_park, resume_finish, verdict, tally, set_up_residue, set_up_listed}
 
@@ -27,26 +29,25 @@ accesses_in (m ∷ h ∷ l ∷ bs) = access m (256 * h + l) ∷ accesses_in bs
 abbrev pub append_sized : List ℕ → Bool
 append_sized bs = nat_le (slice_index bs 3) 8 && length bs == 4 + 3 * slice_index bs 3
 
--- what bytes say as a frame of kind k, if they are as many as that kind has
-abbrev pub said_in : ℕ → List ℕ → Option Content
-said_in k bs =
-    cond (k == 1 && append_sized bs) (Some (append (pair_at bs 1) (accesses_in (drop 4 bs))))
-    (cond (k == 2 && length bs == 1) (Some assign)
-    (cond (k == 3 && length bs == 2) (Some (begin_park (slice_index bs 1)))
-    (cond (k == 4 && length bs == 2) (Some (resume_finish (slice_index bs 1)))
-    (cond (k == 5 && length bs == 3) (Some (verdict (pair_at bs 1)))
-    (cond (k == 6 && length bs == 1) (Some tally)
-    (cond (k == 16 && length bs == 3) (Some (set_up_residue (slice_index bs 1) (slice_index bs 2)))
-    (cond (k == 17 && length bs == 1027) (Some (set_up_listed (slice_index bs 1) (slice_index bs 2) (drop 3 bs)))
-    None)))))))
+-- what bytes say as a frame of a kind, if they are as many as that kind has
+abbrev pub said_in : Kind → List ℕ → Option Content
+said_in Append bs = cond (append_sized bs) (Some (append (pair_at bs 1) (accesses_in (drop 4 bs)))) None
+said_in Assign bs = cond (length bs == 1) (Some assign) None
+said_in BeginPark bs = cond (length bs == 2) (Some (begin_park (slice_index bs 1))) None
+said_in ResumeFinish bs = cond (length bs == 2) (Some (resume_finish (slice_index bs 1))) None
+said_in Verdict bs = cond (length bs == 3) (Some (verdict (pair_at bs 1))) None
+said_in Tally bs = cond (length bs == 1) (Some tally) None
+said_in SetUpResidue bs = cond (length bs == 3) (Some (set_up_residue (slice_index bs 1) (slice_index bs 2))) None
+said_in SetUpListed bs = cond (length bs == 1027) (Some (set_up_listed (slice_index bs 1) (slice_index bs 2) (drop 3 bs))) None
 
--- else no frame has that kind, or its length is another
-abbrev pub misfit : ℕ → ℕ → LineFault
-misfit k len = cond (within 1 6 k || within 16 17 k) (WrongLength len) (UnknownKind k)
+-- else their count is wrong; and bytes whose kind no frame has say nothing
+abbrev pub frame_with : Result Kind LineFault → List ℕ → Result Content LineFault
+frame_with (Err e) bs = Err e
+frame_with (Ok kind) bs = ok_or (said_in kind bs) (WrongLength (length bs))
 
 -- the first byte is the kind
 abbrev pub frame_in : List ℕ → Result Content LineFault
-frame_in bs = refuse (length bs == 0) Empty (ok_or (said_in (slice_index bs 0) bs) (misfit (slice_index bs 0) (length bs)))
+frame_in bs = refuse (length bs == 0) Empty (frame_with (kind_from (slice_index bs 0)) bs)
 
 -- the checks of a line, in the order of the table of refusals
 abbrev pub read_answer : List ℕ → Result Content LineFault
@@ -54,7 +55,3 @@ read_answer line =
     refuse (length line % 2 == 1) (OddCount (length line))
     (refuse (nat_lt (prefix_len is_hex_digit line) (length line)) (NotHexadecimal (prefix_len is_hex_digit line))
     (frame_in (bytes_in line)))
-
--- a row of bytes has at its start the bytes of the line, as far as it goes
-abbrev pub Decoded : List ℕ → List ℕ → Type 0
-Decoded line row = (k : ℕ) → k < length row → k < length (bytes_in line) → slice_index row k ≡ slice_index (bytes_in line) k

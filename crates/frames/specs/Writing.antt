@@ -13,7 +13,7 @@ written f = line_of f ++ 10 ∷ []
 abbrev pub over : List ℕ → List ℕ → List ℕ
 over xs ys = xs ++ drop (length xs) ys
 
-abbrev pub unless : Option WriteFault → Result ℕ WriteFault → Result ℕ WriteFault
+abbrev pub unless : {A : Type 0} → Option WriteFault → Result A WriteFault → Result A WriteFault
 unless (Some e) r = Err e
 unless None r = r
 

@@ -9,7 +9,7 @@ pub enum LineFault {
     OddCount(usize),
     // Cause 2: the character at this place, the first such, is none of 0 to 9 and A to F.
     NotHexadecimal(usize),
-    // Cause 3: the line is empty. It returns 256, which no kind has.
+    // Cause 3: the line is empty. It returns 256, which the table of refusals gives it and no kind has.
     Empty,
     // Cause 3: no frame has this kind.
     UnknownKind(u8),
@@ -38,7 +38,7 @@ impl LineFault {
             LineFault::OddCount(characters) => characters,
             LineFault::NotHexadecimal(place) => place,
             LineFault::Empty => 256,
-            LineFault::UnknownKind(kind) => kind as usize,
+            LineFault::UnknownKind(kind) => usize::from(kind),
             LineFault::WrongLength(bytes) => bytes,
         }
     }

@@ -1,12 +1,15 @@
 // What one line of a log asks for.
-ghost use Rattle.std.specs.Prelude.{◌≡◌, replicate};
+ghost use Rattle.std.specs.Prelude.{◌≡◌, [], replicate};
 ghost use Rattle.terms.specs.Accesses.{access};
+ghost use Rattle.frames.specs.Held.{content_of};
+ghost use Rattle.frames.specs.Kinds.{kind_of};
 
-use super::kinds::{LONGEST_FRAME, MOST_ACCESSES};
+use super::kind::{Kind, LONGEST_FRAME, MOST_ACCESSES};
+use arrayvec::ArrayVec;
 use terms::Access;
 
 // A frame borrows its accesses or its table: from the caller who writes it, or from the room it was read into.
-#[derive(Clone, Copy)]
+#[derive(Clone, Copy, Debug, PartialEq, Eq)]
 pub enum Frame<'a> {
     // Kind 01.
     Append {
@@ -42,21 +45,39 @@ pub enum Frame<'a> {
     },
 }
 
+impl Frame<'_> {
+    pub fn kind(self) -> Kind
+        ensures { result ≡ kind_of (content_of self.entry) }
+    {
+        match self {
+            Frame::Append { .. } => Kind::Append,
+            Frame::Assign => Kind::Assign,
+            Frame::BeginPark { .. } => Kind::BeginPark,
+            Frame::ResumeFinish { .. } => Kind::ResumeFinish,
+            Frame::Verdict { .. } => Kind::Verdict,
+            Frame::Tally => Kind::Tally,
+            Frame::SetUpResidue { .. } => Kind::SetUpResidue,
+            Frame::SetUpListed { .. } => Kind::SetUpListed,
+        }
+    }
+}
+
 // Where the reader puts what a frame borrows, so that reading takes no heap. Nobody else sees what it holds.
 #[derive(Drop)]
 pub struct Room {
-    pub(super) bytes: [u8; LONGEST_FRAME],
+    pub(super) bytes: ArrayVec<u8, LONGEST_FRAME>,
+    // An array and no `ArrayVec`, which wants a default, and no access is that.
     pub(super) accesses: [Access; MOST_ACCESSES],
 }
 
 impl Room {
     // A blank room.
     pub fn new() -> Room
-        ensures bytes { result.bytes ≡ replicate 1027 0 }
-        ensures accesses { result.accesses ≡ replicate 8 (access 0 0) }
+        ensures bytes { result.bytes.items ≡ [] }
+        ensures accesses { result.accesses ≡ replicate MOST_ACCESSES (access 0 0) }
     {
         Room {
-            bytes: [0; LONGEST_FRAME],
+            bytes: ArrayVec::new(),
             accesses: [Access { mode: 0, cell: 0 }; MOST_ACCESSES],
         }
     }

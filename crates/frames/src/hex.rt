@@ -1,70 +1,67 @@
 // Hexadecimal digits.
-ghost use Rattle.std.specs.Prelude.{◌≡◌, ◌+◌, ◌*◌, ◌%◌, ◌<◌, ◌≤◌, true, [], ◌∷◌, ◌++◌, length, take, drop, Ok, OnOk, nat_lt};
+ghost use Rattle.std.specs.Prelude.{◌≡◌, ◌+◌, ◌*◌, ◌%◌, ◌<◌, ◌≤◌, [], ◌∷◌, ◌++◌, cond, length, take, None, Some, Ok, IfSome, OnOk, nat_lt};
 ghost use Rattle.std.specs.List.{prefix_len};
+ghost use Rattle.arrayvec.specs.ArrayVec.{array_vec_len};
 ghost use Rattle.terms.specs.Refusals.{refuse};
 ghost use Rattle.frames.specs.declared.fault.LineFault.TheVariants.{NotHexadecimal};
-ghost use Rattle.frames.specs.Hex.{hex_digit_of, is_hex_digit, hex_value_of, hex_of};
-ghost use Rattle.frames.specs.Reading.{Decoded};
-ghost use Rattle.frames.specs.Writing.{over};
+ghost use Rattle.frames.specs.Hex.{hex_digit_of, is_hex_digit, hex_value_of, hex_of, bytes_in, Bytes};
 
 use super::fault::LineFault;
+use super::kind::{LONGEST_FRAME, LONGEST_LINE};
+use arrayvec::ArrayVec;
 
-// Reads the digits of a line of even length into the start of a row of bytes, and no further than its end;
+// Reads the bytes that the digits of a line of even length stand for, as many as the longest frame has;
 // or finds the first character that is no digit.
-pub fn decode(line: &[u8], bytes: &mut [u8]) -> Result<(), LineFault>
+pub fn decode(line: &[u8], bytes: &mut ArrayVec<u8, LONGEST_FRAME>) -> Result<(), LineFault>
     requires { length line.now % 2 ≡ 0 }
     ensures answer { result ≡ refuse (nat_lt (prefix_len is_hex_digit line.now) (length line.now)) (NotHexadecimal (prefix_len is_hex_digit line.now)) (Ok tt) }
-    ensures bytes { OnOk result (Decoded line.now bytes.new) }
+    ensures bytes { OnOk result (bytes.new.items ≡ take LONGEST_FRAME (bytes_in line.now)) }
 {
-    for i in 0..line.len() / 2 {
-        let high = line[2 * i];
-        let low = line[2 * i + 1];
-        if !is_digit(high) {
+    bytes.clear();
+    let (pairs, _) = line.as_chunks::<2>();
+    for (i, [high, low]) in pairs.iter().enumerate() {
+        let Some(high) = value_of(*high) else {
             return Err(LineFault::NotHexadecimal(2 * i));
-        }
-        if !is_digit(low) {
+        };
+        let Some(low) = value_of(*low) else {
             return Err(LineFault::NotHexadecimal(2 * i + 1));
-        }
-        if i < bytes.len() {
-            bytes[i] = 16 * value_of(high) + value_of(low);
-        }
+        };
+        // Where the row is full the byte is of no frame, and is left out.
+        let _ = bytes.try_push(16 * high + low);
     }
     Ok(())
 }
 
-// Writes the digits of the bytes from a place on, and answers the place after them.
-pub fn put(out: &mut [u8], at: usize, bytes: &[u8]) -> usize
-    requires { at + 2 * length bytes.now ≤ length out.old }
-    ensures value { result ≡ at + 2 * length bytes.now }
-    ensures after { out.new ≡ take at out.old ++ over (hex_of bytes.now) (drop at out.old) }
+// Adds the digits of the bytes to a line.
+pub fn put(line: &mut ArrayVec<u8, LONGEST_LINE>, bytes: &[u8])
+    requires { array_vec_len line.old + 2 * length bytes.now ≤ LONGEST_LINE }
+    ensures line { line.new.items ≡ line.old.items ++ hex_of bytes.now }
+    ensures fit { Bytes bytes.now }
 {
-    for (i, b) in bytes.iter().enumerate() {
-        let (high, low) = hex_pair(*b);
-        out[at + 2 * i] = high;
-        out[at + 2 * i + 1] = low;
+    for byte in bytes {
+        let [high, low] = hex_pair(*byte);
+        line.push(high);
+        line.push(low);
     }
-    at + 2 * bytes.len()
 }
 
 // The two digits of a byte, the high one first.
-pub fn hex_pair(byte: u8) -> (u8, u8)
-    ensures { result.0 ∷ result.1 ∷ [] ≡ hex_of (byte ∷ []) }
+pub fn hex_pair(byte: u8) -> [u8; 2]
+    ensures { result ≡ hex_of (byte ∷ []) }
 {
-    (digit_of(byte / 16), digit_of(byte % 16))
+    [digit_of(byte / 16), digit_of(byte % 16)]
 }
 
-fn is_digit(c: u8) -> bool
-    ensures { result ≡ is_hex_digit c }
+// The value of a digit, if the character is one.
+fn value_of(character: u8) -> Option<u8>
+    ensures value { result ≡ cond (is_hex_digit character) (Some (hex_value_of character)) None }
+    ensures bound { IfSome result (λ value. value < 16) }
 {
-    (b'0' <= c && c <= b'9') || (b'A' <= c && c <= b'F')
-}
-
-fn value_of(c: u8) -> u8
-    requires { is_hex_digit c ≡ true }
-    ensures value { result ≡ hex_value_of c }
-    ensures bound { result < 16 }
-{
-    if c <= b'9' { c - b'0' } else { c - b'A' + 10 }
+    match character {
+        b'0'..=b'9' => Some(character - b'0'),
+        b'A'..=b'F' => Some(character - b'A' + 10),
+        _ => None,
+    }
 }
 
 fn digit_of(value: u8) -> u8

@@ -4,7 +4,7 @@
 mod fault;
 mod frame;
 mod hex;
-mod kinds;
+mod kind;
 mod lines;
 mod reader;
 mod writer;
@@ -12,7 +12,8 @@ mod writer;
 pub use fault::{LineFault, WriteFault};
 pub use frame::{Frame, Room};
 pub use hex::hex_pair;
-pub use lines::first_line;
+pub use kind::{Kind, LONGEST_LINE};
+pub use lines::{Lines, first_line};
 pub use reader::read_line;
 pub use writer::write_line;
 
@@ -30,7 +31,7 @@ mod tests {
             return Err(Fail::new("8 accesses were refused"));
         };
         assert_eq!(rt; snapshot, 0);
-        assert_eq!(rt; accesses.len(), 8);
+        assert_eq!(rt; accesses, [Access { mode: 1, cell: 1 }; 8].as_slice());
         let line = b"01000009010001010001010001010001010001010001010001010001010001";
         assert_eq!(rt;
             read_line(line, &mut room).err(),
@@ -84,21 +85,35 @@ mod tests {
             write_line(frame, &mut out),
             Err(WriteFault::ShortBuffer(21))
         );
-        assert!(rt; out == [7u8; 16]);
+        assert_eq!(rt; out, [7u8; 16]);
         let frame = Frame::Append {
             snapshot: 258,
             accesses: &accesses[0..1],
         };
         assert_eq!(rt; write_line(frame, &mut out), Ok(15));
-        assert!(rt; out == *b"010102010103FF\n\x07");
+        assert_eq!(rt; out, *b"010102010103FF\n\x07");
     }
 
     #[test]
     fn the_last_line_needs_no_line_feed(rt: HostRuntime) {
         let (line, rest) = first_line(b"02\n06");
-        assert!(rt; line == b"02".as_slice());
+        assert_eq!(rt; line, b"02".as_slice());
         let (line, rest) = first_line(rest);
-        assert!(rt; line == b"06".as_slice());
-        assert!(rt; rest.len() == 0);
+        assert_eq!(rt; line, b"06".as_slice());
+        assert_eq!(rt; rest.len(), 0);
+        let mut lines = Lines::new(b"02\n06");
+        assert_eq!(rt; lines.next(), Some(b"02".as_slice()));
+        assert_eq!(rt; lines.next(), Some(b"06".as_slice()));
+        assert_eq!(rt; lines.next(), None);
+    }
+
+    #[test]
+    fn a_kind_is_found_by_its_byte(rt: HostRuntime) {
+        for kind in Kind::ALL {
+            assert_eq!(rt; Kind::try_from(u8::from(kind)), Ok(kind));
+        }
+        assert_eq!(rt; Kind::try_from(0x0A), Err(LineFault::UnknownKind(10)));
+        let frame = Frame::Verdict { number: 2 };
+        assert_eq!(rt; frame.kind(), Kind::Verdict);
     }
 }

@@ -1,18 +1,17 @@
 // Frames from lines.
 ghost use Rattle.std.specs.Prelude.{◌≡◌, ◌+◌, ◌*◌, slice_index};
+ghost use Rattle.std.specs.Option.{option_map};
+ghost use Rattle.terms.specs.Accesses.{access};
 ghost use Rattle.terms.specs.Refusals.{ok_as};
 ghost use Rattle.frames.specs.Held.{content_of};
-ghost use Rattle.frames.specs.Reading.{read_answer, frame_in, misfit as misfit_of};
+ghost use Rattle.frames.specs.Reading.{read_answer, said_in};
 ghost use Rattle.frames.specs.RoundTrips.{ReadIsWritten};
 
 use super::fault::LineFault;
 use super::frame::{Frame, Room};
 use super::hex::decode;
-use super::kinds::{
-    APPEND, ASSIGN, BEGIN_PARK, LONGEST_FRAME, MOST_ACCESSES, RESUME_FINISH, SET_UP_LISTED,
-    SET_UP_RESIDUE, TALLY, VERDICT,
-};
-use terms::Access;
+use super::kind::{Kind, LONGEST_FRAME, MOST_ACCESSES};
+use terms::{Access, CELLS};
 
 // The frame that the characters of a line say; they end before the line feed.
 pub fn read_line<'a>(line: &[u8], room: &'a mut Room) -> Result<Frame<'a>, LineFault>
@@ -24,81 +23,76 @@ pub fn read_line<'a>(line: &[u8], room: &'a mut Room) -> Result<Frame<'a>, LineF
     }
     let Room { bytes, accesses } = room;
     decode(line, bytes)?;
+    let bytes = bytes.as_slice();
+    let Some(first) = bytes.first() else {
+        return Err(LineFault::Empty);
+    };
+    let kind = Kind::try_from(*first)?;
     let len = line.len() / 2;
     if len > LONGEST_FRAME {
-        return Err(misfit(bytes[0], len));
+        return Err(LineFault::WrongLength(len));
     }
-    read_frame(&bytes[0..len], accesses)
+    frame_of_kind(kind, bytes, accesses).ok_or(LineFault::WrongLength(len))
 }
 
-// The frame in a row of bytes.
-fn read_frame<'a>(bytes: &'a [u8], accesses: &'a mut [Access; 8]) -> Result<Frame<'a>, LineFault>
-    ensures { ok_as content_of result ≡ frame_in bytes.now }
+// The frame of this kind in a row of bytes, if they are as many as that kind has.
+fn frame_of_kind<'a>(
+    kind: Kind,
+    bytes: &'a [u8],
+    accesses: &'a mut [Access; MOST_ACCESSES],
+) -> Option<Frame<'a>>
+    ensures { option_map content_of result ≡ said_in kind bytes.now }
 {
-    let len = bytes.len();
-    if len == 0 {
-        return Err(LineFault::Empty);
-    }
-    match bytes[0] {
-        APPEND => read_append(bytes, accesses),
-        ASSIGN if len == 1 => Ok(Frame::Assign),
-        BEGIN_PARK if len == 2 => Ok(Frame::BeginPark { worker: bytes[1] }),
-        RESUME_FINISH if len == 2 => Ok(Frame::ResumeFinish { worker: bytes[1] }),
-        VERDICT if len == 3 => Ok(Frame::Verdict {
-            number: pair(bytes[1], bytes[2]),
+    match (kind, bytes) {
+        (Kind::Append, _) => append_in(bytes, accesses),
+        (Kind::Assign, [_]) => Some(Frame::Assign),
+        (Kind::BeginPark, [_, worker]) => Some(Frame::BeginPark { worker: *worker }),
+        (Kind::ResumeFinish, [_, worker]) => Some(Frame::ResumeFinish { worker: *worker }),
+        (Kind::Verdict, [_, high, low]) => Some(Frame::Verdict {
+            number: u16::from_be_bytes([*high, *low]),
         }),
-        TALLY if len == 1 => Ok(Frame::Tally),
-        SET_UP_RESIDUE if len == 3 => Ok(Frame::SetUpResidue {
-            rule: bytes[1],
-            n: bytes[2],
-        }),
-        SET_UP_LISTED if len == LONGEST_FRAME => Ok(Frame::SetUpListed {
-            rule: bytes[1],
-            n: bytes[2],
-            table: &bytes[3..],
-        }),
-        kind => Err(misfit(kind, len)),
+        (Kind::Tally, [_]) => Some(Frame::Tally),
+        (Kind::SetUpResidue, [_, rule, n]) => Some(Frame::SetUpResidue { rule: *rule, n: *n }),
+        (Kind::SetUpListed, [_, rule, n, table @ ..]) if table.len() == CELLS => {
+            Some(Frame::SetUpListed {
+                rule: *rule,
+                n: *n,
+                table,
+            })
+        }
+        _ => None,
     }
 }
 
 // An append, if the row is as long as its count of accesses says.
-fn read_append<'a>(bytes: &'a [u8], accesses: &'a mut [Access; 8]) -> Result<Frame<'a>, LineFault>
-    requires { slice_index bytes.now 0 ≡ 1 }
-    ensures { ok_as content_of result ≡ frame_in bytes.now }
+fn append_in<'a>(bytes: &'a [u8], accesses: &'a mut [Access; MOST_ACCESSES]) -> Option<Frame<'a>>
+    ensures { option_map content_of result ≡ said_in Kind.Append bytes.now }
 {
-    let len = bytes.len();
-    if len < 4 {
-        return Err(LineFault::WrongLength(len));
+    let [_, high, low, count, fields @ ..] = bytes else {
+        return None;
+    };
+    let count = usize::from(*count);
+    if count > MOST_ACCESSES || fields.len() != 3 * count {
+        return None;
     }
-    let count = bytes[3] as usize;
-    if count > MOST_ACCESSES || len != 4 + 3 * count {
-        return Err(LineFault::WrongLength(len));
+    let (triples, _) = fields.as_chunks::<3>();
+    // Each at its place: tried with `iter_mut` and `zip`, after which no proof knows what the row holds.
+    for (i, triple) in triples.iter().enumerate() {
+        accesses[i] = access_from(*triple);
     }
-    for i in 0..count {
-        accesses[i] = Access {
-            mode: bytes[4 + 3 * i],
-            cell: pair(bytes[5 + 3 * i], bytes[6 + 3 * i]),
-        };
-    }
-    Ok(Frame::Append {
-        snapshot: pair(bytes[1], bytes[2]),
-        accesses: &accesses[0..count],
+    Some(Frame::Append {
+        snapshot: u16::from_be_bytes([*high, *low]),
+        accesses: &accesses[..count],
     })
 }
 
-// The fault of a row of bytes that has not the length of its kind, or whose kind no frame has.
-fn misfit(kind: u8, len: usize) -> LineFault
-    ensures { result ≡ misfit_of kind len }
+// The access in three bytes: its mode, and its cell with the high byte first.
+fn access_from(bytes: [u8; 3]) -> Access
+    ensures { result ≡ access (slice_index bytes 0) (256 * slice_index bytes 1 + slice_index bytes 2) }
 {
-    match kind {
-        APPEND..=TALLY | SET_UP_RESIDUE | SET_UP_LISTED => LineFault::WrongLength(len),
-        _ => LineFault::UnknownKind(kind),
+    let [mode, high, low] = bytes;
+    Access {
+        mode,
+        cell: u16::from_be_bytes([high, low]),
     }
-}
-
-// The number of two bytes, the high one first.
-fn pair(high: u8, low: u8) -> u16
-    ensures { result ≡ 256 * high + low }
-{
-    u16::from_be_bytes([high, low])
 }

@@ -1,10 +1,10 @@
-use Rattle.std.proofs.Common.{◌≡◌, ℕ, ◌+◌, ◌*◌, ◌<◌, length, get_or, drop}
+use Rattle.std.proofs.Common.{◌≡◌, ◌+◌, ◌*◌, take, drop}
 use Rattle.std.specs.List.{prefix_len}
 use Rattle.frames.specs.Hex.{is_hex_digit, bytes_in}
 use Rattle.frames.proofs.hex.decode.Given as goal
 
--- every character so far is a digit, and the row has the bytes so far
+-- every character so far is a digit, and the row has the bytes so far, as many as a frame may have
 abbrev pub invariant-loop-i : goal.invariant-loop-i
 invariant-loop-i l =
     (2 * l.i + prefix_len is_hex_digit (drop (2 * l.i) l.line) ≡ prefix_len is_hex_digit l.line)
-    × ((k : ℕ) → k < l.i → k < length l.bytes → get_or l.bytes k 0 ≡ get_or (bytes_in l.line) k 0)
+    × (l.bytes.items ≡ take l.i (take 1027 (bytes_in l.line)))

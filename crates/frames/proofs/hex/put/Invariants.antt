@@ -1,8 +1,7 @@
-use Rattle.std.proofs.Common.{◌≡◌, ◌++◌, take, drop}
+use Rattle.std.proofs.Common.{◌≡◌, ◌++◌, take}
 use Rattle.frames.specs.Hex.{hex_of}
-use Rattle.frames.specs.Writing.{over}
 use Rattle.frames.proofs.hex.put.Given as goal
 
--- the digits of the bytes so far stand from the place on
-abbrev pub invariant-loop-i : goal.invariant-loop-i
-invariant-loop-i l = l.out ≡ take l.at l.initial.out ++ over (hex_of (take l.i l.bytes)) (drop l.at l.initial.out)
+-- the digits of the bytes so far are added
+abbrev pub invariant-loop-byte : goal.invariant-loop-byte
+invariant-loop-byte l = l.line.items ≡ l.initial.line.items ++ hex_of (take l.byte-index l.bytes)

@@ -1,31 +1,20 @@
-use Rattle.std.proofs.Common.{◌≡◌, [], length, set, None, refl, arith}
-use Rattle.std.proofs.lemmas.List.{length-set}
-use Rattle.frames.specs.Contents.{line_of, no_line_of}
+use Rattle.std.proofs.Common.{◌≡◌, ℕ, List, [], ◌∷◌, ◌++◌, length, lit<, sym, ◌∙◌, ap, arith}
+use Rattle.frames.specs.Contents.{no_line_of}
 use Rattle.frames.specs.Held.{content_of}
-use Rattle.frames.specs.Writing.{over, written}
+use Rattle.frames.specs.Writing.{written}
 use Rattle.frames.proofs.RoundTripLaws.{buffer_reads}
-use Rattle.frames.proofs.PutLaws.{over_put}
-use Rattle.frames.proofs.WriteLaws.{answer_short, answer_ok}
+use Rattle.frames.proofs.WriteLaws.{has_line_is, line_short}
 use Rattle.frames.proofs.writer.write_line.Goals as goal
 
-pub returns-then-out-needed : goal.returns-then-out-needed
-returns-then-out-needed c =
-    let u : no_line_of (content_of c.args.frame) ≡ None = cc in
-    record {
-      answer = answer_short (content_of c.args.frame) (length c.args.out.now) c.line_length-needed.result u c.line_length-needed.ensures.value c.if-out-needed.true;
-      buffer = refl;
-      reads = tt;
-      within = tt;
-    }
+pub push-requires : goal.push-requires
+push-requires c =
+    let held = has_line_is (no_line_of (content_of c.args.frame)) _ c.in_ok-has_line.ensures in
+    let short = line_short (content_of c.args.frame) held in
+    (lit< tt, omega (arith, ap length c.put_frame.ensures.line))
 
-pub returns : goal.returns
-returns c =
-    let u : no_line_of (content_of c.args.frame) ≡ None = cc in
-    let f = over_put [] (line_of (content_of c.args.frame)) c.args.out.now c.put_frame-end.result 10 (omega (arith, c.put_frame-end.ensures.value)) (omega (arith, c.line_length-needed.ensures.value)) in
-    let b : set c.put_frame-end.new.out c.put_frame-end.result 10 ≡ over (written (content_of c.args.frame)) c.args.out.now = cc in
-    record {
-      answer = answer_ok (content_of c.args.frame) (length c.args.out.now) c.line_length-needed.result u c.line_length-needed.ensures.value c.if-out-needed.false;
-      buffer = b;
-      reads = buffer_reads (content_of c.args.frame) c.args.out.now _ c.line_length-needed.result u c.put_frame-end.ensures.fields c.line_length-needed.ensures.value b;
-      within = (omega arith, simp length-set (omega arith));
-    }
+pub returns-clause-reads : goal.returns-clause-reads
+returns-clause-reads c =
+    let held = has_line_is (no_line_of (content_of c.args.frame)) _ c.in_ok-has_line.ensures in
+    let pushed : c.push.new.self.items ≡ written (content_of c.args.frame) = c.push.ensures.items ∙ ap (λ (line : List ℕ). line ++ 10 ∷ []) c.put_frame.ensures.line in
+    let copied = c.copy_from_slice.ensures.after ∙ c.as_slice.ensures.value in
+    buffer_reads (content_of c.args.frame) _ c.args.out.now _ held c.put_frame.ensures.fit (copied ∙ pushed) (c.len-needed.ensures.value ∙ ap length (sym copied))
