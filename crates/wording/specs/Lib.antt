@@ -1,4 +1,3 @@
 pub mod Words
 pub mod Kinds
-pub mod Held
 pub mod Back

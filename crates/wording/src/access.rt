@@ -28,9 +28,7 @@ impl fmt::Display for AccessWords {
     ghost output = { λ a. Some (access_words a.0) };
 
     fn fmt<W: fmt::Write>(&self, f: &mut fmt::Formatter<W>) -> fmt::Result {
-        let mode = ModeWords(self.0.mode);
-        let cell = self.0.cell;
-        write!(f, "{mode} cell {cell}")
+        write!(f, "{} cell {}", ModeWords(self.0.mode), self.0.cell)
     }
 }
 
@@ -43,8 +41,7 @@ impl fmt::Display for MoreWords<'_> {
 
     fn fmt<W: fmt::Write>(&self, f: &mut fmt::Formatter<W>) -> fmt::Result {
         for access in self.0 {
-            let words = AccessWords(*access);
-            write!(f, ", {words}")?;
+            write!(f, ", {}", AccessWords(*access))?;
         }
         Ok(())
     }
@@ -57,11 +54,9 @@ impl fmt::Display for AccessesWords<'_> {
     ghost output = { λ a. Some (accesses_words a.0.now) };
 
     fn fmt<W: fmt::Write>(&self, f: &mut fmt::Formatter<W>) -> fmt::Result {
-        if self.0.len() == 0 {
-            return f.write_str("no access");
+        match self.0 {
+            [] => f.write_str("no access"),
+            [first, more @ ..] => write!(f, "{}{}", AccessWords(*first), MoreWords(more)),
         }
-        let first = AccessWords(self.0[0]);
-        let more = MoreWords(&self.0[1..]);
-        write!(f, "{first}{more}")
     }
 }

@@ -4,17 +4,16 @@ ghost use Rattle.frames.specs.Held.{content_of};
 ghost use Rattle.frames.specs.Reading.{read_answer};
 ghost use Rattle.wording.specs.Back.{is_line_from};
 
-use frames::{Frame, write_line};
+use frames::{Frame, LONGEST_LINE, write_line};
 
 // Writes the frame, and compares. A line that reads as the frame passes, whatever it is.
 pub fn is_line_of(frame: Frame<'_>, line: &[u8]) -> bool
     ensures answer { result ≡ is_line_from (content_of frame.entry) line.now }
     ensures reads { read_answer line.now ≡ Ok (content_of frame.entry) → result ≡ true }
 {
-    // The longest line has 2,054 characters and a line feed.
-    let mut out = [0u8; 2055];
+    let mut out = [0; LONGEST_LINE];
     let Ok(written) = write_line(frame, &mut out) else {
         return false;
     };
-    &out[0..written - 1] == line
+    &out[..written - 1] == line
 }

@@ -8,6 +8,7 @@ use frames::Frame;
 use std::fmt;
 
 // The rule that a set-up's rule byte stands for.
+// A match and no enum: two bytes stand for one rule, and a frame may hold a byte of none.
 fn rule_name(rule: u8) -> &'static str
     ensures { result.now ≡ rule_name_of rule }
 {
@@ -26,9 +27,7 @@ impl fmt::Display for RuleWords {
     ghost output = { λ r. Some (rule_words r.0) };
 
     fn fmt<W: fmt::Write>(&self, f: &mut fmt::Formatter<W>) -> fmt::Result {
-        let rule = self.0;
-        let name = rule_name(rule);
-        write!(f, "rule {rule} ({name})")
+        write!(f, "rule {} ({})", self.0, rule_name(self.0))
     }
 }
 
@@ -41,8 +40,11 @@ impl fmt::Display for FrameWords<'_> {
     fn fmt<W: fmt::Write>(&self, f: &mut fmt::Formatter<W>) -> fmt::Result {
         match self.0 {
             Frame::Append { snapshot, accesses } => {
-                let accesses = AccessesWords(accesses);
-                write!(f, "append, snapshot {snapshot}: {accesses}")
+                write!(
+                    f,
+                    "append, snapshot {snapshot}: {}",
+                    AccessesWords(accesses)
+                )
             }
             Frame::Assign => f.write_str("assign"),
             Frame::BeginPark { worker } => write!(f, "begin, park, worker {worker}"),
@@ -50,12 +52,10 @@ impl fmt::Display for FrameWords<'_> {
             Frame::Verdict { number } => write!(f, "verdict of intention {number}"),
             Frame::Tally => f.write_str("tally"),
             Frame::SetUpResidue { rule, n } => {
-                let rule = RuleWords(rule);
-                write!(f, "set up, {rule}, residue map, n = {n}")
+                write!(f, "set up, {}, residue map, n = {n}", RuleWords(rule))
             }
-            Frame::SetUpListed { rule, n, table: _ } => {
-                let rule = RuleWords(rule);
-                write!(f, "set up, {rule}, listed map, n = {n}")
+            Frame::SetUpListed { rule, n, .. } => {
+                write!(f, "set up, {}, listed map, n = {n}", RuleWords(rule))
             }
         }
     }

@@ -11,5 +11,5 @@ mod line;
 
 pub use back::is_line_of;
 pub use counts::Counts;
-pub use kind::LineKind;
+pub use kind::{KindWords, line_kind};
 pub use line::LineWords;

@@ -10,7 +10,7 @@ use frames::{Frame, LineFault};
 use std::fmt;
 
 // A line's number, and what it was read as.
-#[derive(Clone, Copy)]
+#[derive(Clone, Copy, Debug, PartialEq, Eq)]
 pub struct LineWords<'a> {
     pub number: usize,
     pub reading: Result<Frame<'a>, LineFault>,
@@ -20,16 +20,9 @@ impl fmt::Display for LineWords<'_> {
     ghost output = { λ l. Some (line_words l.number (ok_as content_of l.reading)) };
 
     fn fmt<W: fmt::Write>(&self, f: &mut fmt::Formatter<W>) -> fmt::Result {
-        let number = self.number;
         match self.reading {
-            Ok(frame) => {
-                let words = FrameWords(frame);
-                write!(f, "{number}: {words}")
-            }
-            Err(fault) => {
-                let words = FaultWords(fault);
-                write!(f, "{number}: {words}")
-            }
+            Ok(frame) => write!(f, "{}: {}", self.number, FrameWords(frame)),
+            Err(fault) => write!(f, "{}: {}", self.number, FaultWords(fault)),
         }
     }
 }

@@ -1,7 +1,6 @@
-use Rattle.std.proofs.Common.{◌≡◌, ℕ, ◌-◌, take, ap, ◌∙◌, arith}
+use Rattle.std.proofs.Common.{◌-◌, take, ◌∙◌}
 use Rattle.std.proofs.lemmas.Slice.Eq.{slice_eq-Decides}
 use Rattle.frames.specs.Held.{content_of}
-use Rattle.frames.specs.Reading.{read_answer}
 use Rattle.wording.proofs.BackLaws.{read_line_is, refused_has_none, compared}
 use Rattle.wording.proofs.back.is_line_of.Goals as goal
 use Rattle.std.proofs.lemmas.Bool.Decides.{Decides-eqb}
@@ -15,7 +14,5 @@ pub returns : goal.returns
 returns c =
     let out = c.write_line.new.out in
     let n = c.in-Ok.written in
-    let z : n - 1 - 0 ≡ n - 1 = omega arith in
-    let read = ap (λ (k : ℕ). read_answer (take k out)) z ∙ c.in-Ok.ensures.reads in
-    let same = compared (content_of c.args.frame) c.args.line.now (take (n - 1 - 0) out) n c.eq.result c.in-Ok.ensures.answer read (slice_eq-Decides Decides-eqb _ _ _ c.eq.ensures) in
+    let same = compared (content_of c.args.frame) c.args.line.now (take (n - 1) out) n c.eq.result c.in-Ok.ensures.answer c.in-Ok.ensures.reads (slice_eq-Decides Decides-eqb _ _ _ c.eq.ensures) in
     record { answer = same; reads = λ e. same ∙ read_line_is _ _ e }
