@@ -2,9 +2,7 @@
 use Rattle.std.specs.Prelude.{ℕ, cond, List, [], ◌∷◌, replicate, is_ok}
 use Rattle.frames.specs.Lines.{lines_of}
 use Rattle.frames.specs.Reading.{read_answer}
-use Rattle.wording.specs.Held.{counts_of}
 use Rattle.wording.specs.Kinds.{kind_in, more, counted}
-use Rattle.logview.specs.declared.Seen.{Seen}
 
 pub record Summary : Type 0 where
   -- how many lines there are, and how many of each kind
@@ -29,7 +27,3 @@ with_lines s (line ∷ rest) = with_lines (with_line s line) rest
 
 abbrev pub summary : List ℕ → Summary
 summary log = with_lines none (lines_of log)
-
--- what the program has counted
-abbrev pub summary_in : Seen → Summary
-summary_in s = record { lines = s.lines; counts = counts_of s.counts; back = s.written_back }

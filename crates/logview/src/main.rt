@@ -5,13 +5,34 @@ ghost use Rattle.std.specs.Prelude.{◌≡◌, is_ok, IfOk};
 ghost use Rattle.terms.specs.Refusals.{ok_as};
 ghost use Rattle.frames.specs.Held.{content_of};
 ghost use Rattle.frames.specs.Reading.{read_answer};
-ghost use Rattle.logview.specs.Summaries.{summary, summary_in, with_line};
+ghost use Rattle.logview.specs.Summaries.{none, summary, with_line};
 
 use anyhow::anyhow;
-use frames::{Frame, LineFault, Room, first_line, read_line};
+use frames::{Frame, Kind, LineFault, Lines, Room, read_line};
 use std::io;
 use std::io::Read;
-use wording::{Counts, LineKind, LineWords, is_line_of};
+use std::marker::Model;
+use wording::{Counts, KindWords, LineWords, is_line_of, line_kind};
+
+// A line of the log, and what it was read as.
+#[derive(Clone, Copy)]
+struct ReadLine<'log, 'room> {
+    line: &'log [u8],
+    reading: Result<Frame<'room>, LineFault>,
+    ghost read: { ok_as content_of reading ≡ read_answer line.now },
+}
+
+impl ReadLine<'_, '_> {
+    // Whether the line reads, and what was read is written as that line again.
+    fn is_written_back(self) -> bool
+        ensures { result ≡ is_ok (read_answer self.entry.line.now) }
+    {
+        match self.reading {
+            Ok(frame) => is_line_of(frame, self.line),
+            Err(_) => false,
+        }
+    }
+}
 
 // What was seen of a whole log.
 #[derive(Drop)]
@@ -22,65 +43,68 @@ struct Seen {
     written_back: usize,
 }
 
+impl Model for Seen {
+    ghost use Rattle.logview.specs.Summaries.{Summary};
+
+    ghost Value = { Summary };
+
+    ghost view = { λ seen. record { lines = seen.lines; counts = seen.counts; back = seen.written_back } };
+}
+
 impl Seen {
+    fn new() -> Seen
+        ensures { result ≡ none }
+    {
+        Seen {
+            lines: 0,
+            counts: Counts::new(),
+            written_back: 0,
+        }
+    }
+
     // Counts a line that was read.
-    fn note(&mut self, line: &[u8], reading: Result<Frame<'_>, LineFault>)
-        requires { ok_as content_of reading ≡ read_answer line.now }
-        ensures { summary_in self.new ≡ with_line (summary_in self.old) line.now }
+    fn note(&mut self, line: ReadLine<'_, '_>)
+        ensures { self.new ≡ with_line self.old line.entry.line.now }
     {
         self.lines = self.lines.saturating_add(1);
-        self.counts.note(LineKind::of(reading));
-        if is_written_back(line, reading) {
+        self.counts.note(line_kind(line.reading));
+        if line.is_written_back() {
             self.written_back = self.written_back.saturating_add(1);
         }
     }
 }
 
-// Whether the line reads, and what was read is written as that line again.
-fn is_written_back(line: &[u8], reading: Result<Frame<'_>, LineFault>) -> bool
-    requires { ok_as content_of reading ≡ read_answer line.now }
-    ensures { result ≡ is_ok (read_answer line.now) }
-{
-    match reading {
-        Ok(frame) => is_line_of(frame, line),
-        Err(_) => false,
-    }
-}
-
 // Tells each line, and counts.
 fn tell_lines(rt: &impl Print, log: &[u8]) -> io::Result<Seen>
-    ensures { IfOk result (λ s. summary_in s ≡ summary log.now) }
+    ensures { IfOk result (λ s. s ≡ summary log.now) }
 {
-    let mut seen = Seen {
-        lines: 0,
-        counts: Counts::new(),
-        written_back: 0,
-    };
+    let mut seen = Seen::new();
     let mut room = Room::new();
-    let mut rest = log;
-    while rest.len() > 0 {
-        let (line, after) = first_line(rest);
+    for line in Lines::new(log) {
         let reading = read_line(line, &mut room);
-        seen.note(line, reading);
-        let number = seen.lines;
-        rt.println(LineWords { number, reading })?;
-        rest = after;
+        seen.note(ReadLine { line, reading });
+        rt.println(LineWords {
+            number: seen.lines,
+            reading,
+        })?;
     }
     Ok(seen)
 }
 
 // Tells the counts, and whether every line that reads is written back as it was.
 fn tell_counts(rt: &impl Print, seen: &Seen) -> anyhow::Result<()> {
-    let lines = seen.lines;
-    println!(rt; "lines: {lines}")?;
-    for kind in LineKind::ALL {
-        let count = seen.counts.of(kind);
-        println!(rt; "  {kind}: {count}")?;
+    println!(rt; "lines: {}", seen.lines)?;
+    for kind in Kind::ALL {
+        println!(rt;
+            "  {}: {}",
+            KindWords(Some(kind)),
+            seen.counts.of(Some(kind))
+        )?;
     }
-    let back = seen.written_back;
-    let refused = seen.counts.of(LineKind::Refused);
-    println!(rt; "written back as they were: {back}")?;
-    if back.saturating_add(refused) < lines {
+    let refused = seen.counts.of(None);
+    println!(rt; "  {}: {refused}", KindWords(None))?;
+    println!(rt; "written back as they were: {}", seen.written_back)?;
+    if seen.written_back.saturating_add(refused) < seen.lines {
         return Err(anyhow!("a line that reads is not written back as it was"));
     }
     Ok(())

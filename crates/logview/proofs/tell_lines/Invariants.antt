@@ -1,12 +1,8 @@
-use Rattle.std.proofs.Common.{◌≡◌, length}
-use Rattle.frames.specs.Lines.{lines_of}
-use Rattle.logview.specs.Summaries.{summary, summary_in, with_lines}
+use Rattle.std.proofs.Common.{◌≡◌}
+use Rattle.frames.specs.Held.{lines_left}
+use Rattle.logview.specs.Summaries.{summary, with_lines}
 use Rattle.logview.proofs.tell_lines.Given as goal
 
 -- what is counted so far, with the lines that are left, is the whole
-abbrev pub invariant-loop-rest : goal.invariant-loop-rest
-invariant-loop-rest g l = with_lines (summary_in l.seen) (lines_of l.rest) ≡ summary l.log
-
--- each line takes some of what is left
-abbrev pub decreases-loop-rest : goal.decreases-loop-rest
-decreases-loop-rest g l = length l.rest
+abbrev pub invariant-loop-line : goal.invariant-loop-line
+invariant-loop-line g l = with_lines l.seen (lines_left l.line-iterator) ≡ summary l.log
