@@ -55,6 +55,7 @@ pub enum WriteFault {
     ShortBuffer(usize),
 }
 
+// Its own methods and no trait beside LineFault's: no caller takes one fault for the other.
 impl WriteFault {
     // The number of the cause.
     pub fn cause(self) -> u8

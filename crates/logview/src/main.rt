@@ -110,13 +110,9 @@ fn tell_counts(rt: &impl Print, seen: &Seen) -> anyhow::Result<()> {
     Ok(())
 }
 
-fn run(rt: &HostRuntime) -> anyhow::Result<()> {
+fn main(rt: HostRuntime) -> anyhow::Result<()> {
     let mut log = Vec::new(rt.alloc());
     rt.stdin().read_to_end(&mut log)?;
-    let seen = tell_lines(rt, log.as_slice())?;
-    tell_counts(rt, &seen)
-}
-
-fn main(rt: HostRuntime) -> anyhow::Result<()> {
-    run(&rt)
+    let seen = tell_lines(&rt, log.as_slice())?;
+    tell_counts(&rt, &seen)
 }

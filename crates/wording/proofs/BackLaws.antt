@@ -1,8 +1,8 @@
 -- A line is compared with the one that its frame is written as.
-use Rattle.std.proofs.Common.{◌≡◌, ℕ, Bool, true, false, not, ◌&&◌, ltb, ◌⊎◌, List, length, is_some, Some, None, Ok, Err, Decides, Option, sym, refl, ap, ◌∙◌, inl, inr, arith}
+use Rattle.std.proofs.Common.{◌≡◌, ℕ, Bool, true, false, not, ◌&&◌, ltb, List, length, is_some, Some, None, Ok, Err, Decides, Option, sym, refl, ap, ◌∙◌, arith}
 use Rattle.std.proofs.lemmas.Slice.Eq.{bytes_eq-Decides}
 use Rattle.std.proofs.lemmas.List.{length_push}
-use Rattle.std.proofs.lemmas.Bool.{cases_Bool, cond-false, le-ltb, and_from, both_ways}
+use Rattle.std.proofs.lemmas.Bool.{cond-false, le-ltb, and_from}
 use Rattle.std.specs.Str.{bytes_eq}
 use Rattle.terms.specs.Refusals.{refuse}
 use Rattle.frames.specs.declared.fault.WriteFault.{WriteFault}
@@ -36,28 +36,16 @@ refused_has_none f line e h = by (no_line_of f) refl
     by (Some x) p = ap (λ (o : Option WriteFault). not (is_some o) && bytes_eq (line_of f) line) (sym p)
     by None p = absurd (let q = fits f p in let z : ◌≡◌ {A = ℕ} 0 1 = cc in omega arith)
 
--- and what it takes has one
-taken_has_one : (f : Content) (n : ℕ) → Ok n ≡ write_answer f 2055 → no_line_of f ≡ None
-taken_has_one f n h = by (no_line_of f) refl
-  where
-    by : (o : Option WriteFault) → no_line_of f ≡ o → no_line_of f ≡ None
-    by (Some x) p = absurd (let q = ap (λ (o : Option WriteFault). unless o (refuse (ltb 2055 (length (written f))) (ShortBuffer (length (written f))) (Ok (length (written f))))) p in let z : ◌≡◌ {A = ℕ} 0 1 = cc in omega arith)
-    by None p = p
+-- two tests of one fact
+same_decided : {P Q : Type 0} (r s : Bool) → Decides r P → Decides s Q → (P → Q) → (Q → P) → r ≡ s
+same_decided true true d e f g = refl
+same_decided true false d e f g = sym (e.1 (f (d.0 refl)))
+same_decided false true d e f g = d.1 (g (e.0 refl))
+same_decided false false d e f g = refl
 
--- which a comparison with what was written finds
-pub compared : (f : Content) (line front : List ℕ) (n : ℕ) (r : Bool) → Ok n ≡ write_answer f 2055 → read_answer front ≡ Ok f → Decides r (front ≡ line) → r ≡ is_line_from f line
-compared f line front n r h e d =
+-- what it takes reads as the frame, so a comparison with it tells whether the line is the frame's
+pub compared : (f : Content) (line front : List ℕ) (r : Bool) → read_answer front ≡ Ok f → Decides r (front ≡ line) → r ≡ is_line_from f line
+compared f line front r e d =
     let (w, s) = read_is_written front f e in
-    let (a, b) = bytes_eq-Decides (line_of f) line in
-    let t : is_line_from f line ≡ bytes_eq (line_of f) line = ap (λ (o : Option WriteFault). not (is_some o) && bytes_eq (line_of f) line) (taken_has_one f n h) in
-    elim (cases_Bool r) [
-      | inl p ↦ p ∙ sym (t ∙ a' b s (d.0 p))
-      | inr p ↦ p ∙ sym (t ∙ differs (cases_Bool (bytes_eq (line_of f) line)) a s p)
-    ]
-  where
-    a' : (line_of f ≡ line → bytes_eq (line_of f) line ≡ true) → line_of f ≡ front → front ≡ line → bytes_eq (line_of f) line ≡ true
-    a' b s y = b (s ∙ y)
-
-    differs : (bytes_eq (line_of f) line ≡ true) ⊎ (bytes_eq (line_of f) line ≡ false) → (bytes_eq (line_of f) line ≡ true → line_of f ≡ line) → line_of f ≡ front → r ≡ false → bytes_eq (line_of f) line ≡ false
-    differs (inl q) a s p = absurd (both_ways r p (d.1 (sym s ∙ a q)))
-    differs (inr q) a s p = q
+    same_decided r (bytes_eq (line_of f) line) d (bytes_eq-Decides (line_of f) line) (λ x. s ∙ x) (λ y. sym s ∙ y)
+    ∙ sym (ap (λ (o : Option WriteFault). not (is_some o) && bytes_eq (line_of f) line) w.held)

@@ -1,7 +1,5 @@
-use Rattle.std.proofs.Common.{subst, arith}
-use Rattle.std.proofs.lemmas.List.{take_all}
+use Rattle.std.proofs.Common.{arith}
 use Rattle.terms.specs.Accesses.{access}
-use Rattle.frames.specs.Contents.{AccessesFit}
 use Rattle.frames.proofs.WriteLaws.{access_more, access_room, fit_more}
 use Rattle.frames.proofs.writer.put_accesses.Goals as goal
 
@@ -13,6 +11,3 @@ loop-access-preserved c = (
   access_more _ _ _ _ _ _ (access 0 0) c.loop-access-test.true c.loop-access.invariant.0 c.three_bytes.ensures.bytes c.put.ensures.line,
   fit_more _ _ (access 0 0) c.loop-access-test.true c.loop-access.invariant.1 c.three_bytes.ensures.fit,
 )
-
-pub returns-clause-fit : goal.returns-clause-fit
-returns-clause-fit c = subst AccessesFit (take_all c.loop-access.access-index c.args.accesses.now c.loop-access-test.false) c.loop-access.invariant.1

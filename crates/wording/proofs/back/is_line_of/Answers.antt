@@ -1,4 +1,4 @@
-use Rattle.std.proofs.Common.{◌-◌, take, ◌∙◌}
+use Rattle.std.proofs.Common.{◌∙◌}
 use Rattle.std.proofs.lemmas.Slice.Eq.{slice_eq-Decides}
 use Rattle.frames.specs.Held.{content_of}
 use Rattle.wording.proofs.BackLaws.{read_line_is, refused_has_none, compared}
@@ -12,7 +12,5 @@ returns-in_default c =
 
 pub returns : goal.returns
 returns c =
-    let out = c.write_line.new.out in
-    let n = c.in-Ok.written in
-    let same = compared (content_of c.args.frame) c.args.line.now (take (n - 1) out) n c.eq.result c.in-Ok.ensures.answer c.in-Ok.ensures.reads (slice_eq-Decides Decides-eqb _ _ _ c.eq.ensures) in
+    let same = compared (content_of c.args.frame) c.args.line.now _ c.eq.result c.in-Ok.ensures.reads (slice_eq-Decides Decides-eqb _ _ _ c.eq.ensures) in
     record { answer = same; reads = λ e. same ∙ read_line_is _ _ e }
