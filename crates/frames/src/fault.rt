@@ -18,7 +18,7 @@ pub enum LineFault {
 }
 
 impl LineFault {
-    // The number of the cause.
+    // The number of the cause, as the table of refusals has it.
     pub fn cause(self) -> u8
         ensures { result ≡ (line_refusal self).cause }
     {
@@ -57,7 +57,7 @@ pub enum WriteFault {
 
 // Its own methods and no trait beside LineFault's: no caller takes one fault for the other.
 impl WriteFault {
-    // The number of the cause.
+    // The number of the cause, as the table of refusals has it.
     pub fn cause(self) -> u8
         ensures { result ≡ (write_refusal self).cause }
     {

@@ -9,6 +9,7 @@ use arrayvec::ArrayVec;
 use terms::Access;
 
 // A frame borrows its accesses or its table: from the caller who writes it, or from the room it was read into.
+// Its rule, its worker and the others are numbers, since the format takes any; which are in range is for the certifier to say.
 #[derive(Clone, Copy, Debug, PartialEq, Eq)]
 pub enum Frame<'a> {
     // Kind 01.

@@ -5,7 +5,7 @@ ghost use Rattle.frames.specs.Lines.{lines_of, first_length_of};
 ghost use Rattle.frames.specs.Held.{lines_left};
 
 // The lines of an input, without their line feeds, one after another.
-#[derive(Clone, Copy, Debug)]
+#[derive(Debug, Drop)]
 pub struct Lines<'a> {
     rest: &'a [u8],
 }

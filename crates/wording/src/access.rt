@@ -5,6 +5,7 @@ ghost use Rattle.wording.specs.Words.{mode_words, access_words, more_words, acce
 use std::fmt;
 use terms::{ADD, Access, READ, WRITE};
 
+// A number and no enum: a frame may hold a mode that has no name.
 #[derive(Clone, Copy)]
 struct ModeWords(u8);
 
