@@ -17,7 +17,7 @@ pub struct Clash {
     pub number: u16,
 }
 
-// How a finish ends.
+// How a finish ends. No Option and no Result: an abort is an answer and no refusal, so a `?` must not carry it up.
 #[derive(Clone, Copy, Debug, PartialEq, Eq)]
 pub enum Outcome {
     Commit,

@@ -1,7 +1,7 @@
 // Push at the back, find the oldest, drop the oldest, count.
 // A row is lent as a slice, of which the caller keeps the length: 16.
-ghost use Rattle.std.specs.Prelude.{◌≡◌, ◌<◌, ◌≤◌, [], ◌∷◌, ◌++◌, length, drop, is_ok, if◌then◌else◌, MatchOption, OnErr, nat_lt, slice_index_or};
-ghost use Rattle.rings.specs.Rings.{held};
+ghost use Rattle.std.specs.Prelude.{◌≡◌, ◌<◌, ◌≤◌, [], ◌∷◌, ◌++◌, length, drop, is_ok, if◌then◌else◌, MatchOption, OnErr, nat_lt};
+ghost use Rattle.rings.specs.Rings.{held, IsOldestAt};
 
 use super::places::{CAPACITY, Places};
 
@@ -10,8 +10,7 @@ use super::places::{CAPACITY, Places};
 pub struct Full;
 
 // Puts an entry behind all others, if there is room.
-pub fn push<E: Copy>(row: &mut [E], places: &mut Places, entry: E) -> Result<(), Full>
-    requires { length row.old ≡ 16 }
+pub fn push<E: Copy>(row: &mut [E; CAPACITY], places: &mut Places, entry: E) -> Result<(), Full>
     ensures answer { is_ok result ≡ nat_lt (length (held row.old places.old)) 16 }
     ensures after { held row.new places.new ≡ (if is_ok result then held row.old places.old ++ entry ∷ [] else held row.old places.old) }
     ensures kept { OnErr result ((row.new ≡ row.old) × (places.new ≡ places.old)) }
@@ -25,9 +24,8 @@ pub fn push<E: Copy>(row: &mut [E], places: &mut Places, entry: E) -> Result<(),
 }
 
 // The place of the oldest entry in the row; none in an empty ring.
-pub fn oldest_place<E>(row: &[E], places: Places) -> Option<usize>
-    requires { length row.now ≡ 16 }
-    ensures { MatchOption result (held row.now places ≡ []) (λ p. (p < 16) × ((d : E) → held row.now places ≡ slice_index_or row.now p d ∷ drop 1 (held row.now places))) }
+pub fn oldest_place<E>(row: &[E; CAPACITY], places: Places) -> Option<usize>
+    ensures { MatchOption result (held row.now places ≡ []) (λ place. IsOldestAt row.now places place) }
 {
     if places.len == 0 {
         return None;
@@ -36,8 +34,7 @@ pub fn oldest_place<E>(row: &[E], places: Places) -> Option<usize>
 }
 
 // Lets the oldest entry go; an empty ring stays empty.
-pub fn drop_oldest<E>(row: &[E], places: &mut Places)
-    requires { length row.now ≡ 16 }
+pub fn drop_oldest<E>(row: &[E; CAPACITY], places: &mut Places)
     ensures { held row.now places.new ≡ drop 1 (held row.now places.old) }
 {
     if places.len > 0 {
@@ -47,8 +44,7 @@ pub fn drop_oldest<E>(row: &[E], places: &mut Places)
 }
 
 // How many entries the ring has.
-pub fn held_count<E>(row: &[E], places: Places) -> usize
-    requires { length row.now ≡ 16 }
+pub fn held_count<E>(row: &[E; CAPACITY], places: Places) -> usize
     ensures value { result ≡ length (held row.now places) }
     ensures bound { result ≤ 16 }
 {

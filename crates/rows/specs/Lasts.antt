@@ -1,6 +1,13 @@
--- What a joint order needs and leaves, by the partitions that it touches. Assumes nothing.
+-- The last assigned numbers, and what a joint order needs and leaves by the partitions that it touches. Assumes nothing.
 use Rattle.std.specs.Prelude.{ℕ, Bool, false, cond, List, map, ◌==◌, slice_index, slice_index_or}
 use Rattle.std.specs.List.{range_with_len}
+
+-- by partition, which has its worker's number
+pub record LastLists : Type 0 where
+  -- the last assigned joint number that touches it
+  pub joints : List ℕ
+  -- the last assigned plain number of its worker
+  pub plains : List ℕ
 
 -- the last plain number of worker v, if it touches partition v; from itself a worker needs nothing
 abbrev pub joint_need_of : List Bool → List ℕ → ℕ → ℕ

@@ -1,7 +1,6 @@
--- What a row of the log shows: the model's row. Assumes nothing.
-use Rattle.std.specs.Prelude.{take}
+-- What a row of the log shows, and marks kept cell by cell. Assumes nothing.
 use Rattle.model.specs.State.{Row}
 use Rattle.rows.specs.declared.logrow.LogRow.{LogRow}
 
 abbrev pub row_of : LogRow → Row
-row_of r = record { intention = record { snapshot = r.snapshot; accesses = take r.count r.accesses }; verdict = r.verdict }
+row_of r = record { intention = r.intention; verdict = r.verdict }

@@ -1,45 +1,91 @@
-// What a joint order needs, and what it leaves as the last joint numbers.
-ghost use Rattle.std.specs.Prelude.{◌≡◌, ◌<◌, length};
-ghost use Rattle.rows.specs.Lasts.{joint_need_of, joint_needs_of, joint_at_of, joints_after_of};
+// The last assigned numbers, which say what the next orders need.
+ghost use Rattle.std.specs.Prelude.{◌≡◌, ◌<◌, slice_index, slice_set};
+ghost use Rattle.model.specs.State.{no_numbers_yet};
+ghost use Rattle.rows.specs.Lasts.{joint_need_of, joint_needs_of, joints_after_of};
 
-// What a joint order that touches these partitions needs from worker v.
-fn joint_need(touched: &[bool], plains: &[u16], v: usize) -> u16
-    requires sizes { (length touched.now ≡ 16) × (length plains.now ≡ 16) }
-    requires low { v < 16 }
-    ensures { result ≡ joint_need_of touched.now plains.now v }
-{
-    if v > 0 && touched[v] { plains[v] } else { 0 }
+use std::marker::Model;
+use terms::WorkerId;
+
+// Of one partition: the last joint number that touches it, and the last plain number of its worker.
+#[derive(Clone, Copy)]
+struct Last {
+    joint: u16,
+    plain: u16,
 }
 
-// What a joint order that touches these partitions needs: the last plain number of each of their workers.
-pub fn joint_needs(touched: &[bool], plains: &[u16]) -> [u16; 16]
-    requires { (length touched.now ≡ 16) × (length plains.now ≡ 16) }
-    ensures { result ≡ joint_needs_of touched.now plains.now }
-{
-    let mut needs = [0u16; 16];
-    for v in 0..16usize {
-        needs[v] = joint_need(touched, plains, v);
+// Of every partition, by its number. None is 0 and no Option, as a need is told.
+#[derive(Drop)]
+pub struct LastNumbers {
+    of: [Last; 16],
+}
+
+impl Model for LastNumbers {
+    ghost use Rattle.std.specs.Prelude.{◌≡◌, length, map};
+    ghost use Rattle.rows.specs.Lasts.{LastLists};
+
+    ghost Value = { LastLists };
+
+    ghost view = { λ l. record { joints = map (λ x. x.joint) l.of; plains = map (λ x. x.plain) l.of } };
+
+    ghost invariant = { λ l. length l.of ≡ 16 };
+}
+
+impl LastNumbers {
+    // Nothing is assigned.
+    pub fn new() -> LastNumbers
+        ensures { result ≡ record { joints = no_numbers_yet; plains = no_numbers_yet } }
+    {
+        LastNumbers {
+            of: [Last { joint: 0, plain: 0 }; 16],
+        }
     }
-    needs
-}
 
-// The last joint number of partition p after a joint order of this number that touches these partitions.
-fn joint_at(touched: &[bool], joints: &[u16], number: u16, p: usize) -> u16
-    requires sizes { (length touched.now ≡ 16) × (length joints.now ≡ 16) }
-    requires low { p < 16 }
-    ensures { result ≡ joint_at_of touched.now joints.now number p }
-{
-    if touched[p] { number } else { joints[p] }
-}
-
-// The last joint numbers after a joint order of this number that touches these partitions.
-pub fn joints_after(touched: &[bool], joints: &[u16], number: u16) -> [u16; 16]
-    requires { (length touched.now ≡ 16) × (length joints.now ≡ 16) }
-    ensures { result ≡ joints_after_of touched.now joints.now number }
-{
-    let mut after = [0u16; 16];
-    for p in 0..16usize {
-        after[p] = joint_at(touched, joints, number, p);
+    // What a plain order of partition p needs: the last joint number that touches it.
+    pub fn plain_need(&self, p: WorkerId) -> u16
+        ensures { result ≡ slice_index self.now.joints p }
+    {
+        self.of[p.index()].joint
     }
-    after
+
+    // What a joint order that touches these partitions needs from worker v.
+    fn joint_need(&self, touched: &[bool; 16], v: usize) -> u16
+        requires { v < 16 }
+        ensures { result ≡ joint_need_of touched.now self.now.plains v }
+    {
+        if v > 0 && touched[v] {
+            self.of[v].plain
+        } else {
+            0
+        }
+    }
+
+    // What a joint order that touches these partitions needs: the last plain number of each of their workers.
+    pub fn joint_needs(&self, touched: &[bool; 16]) -> [u16; 16]
+        ensures { result ≡ joint_needs_of touched.now self.now.plains }
+    {
+        let mut needs = [0; 16];
+        for (v, need) in needs.iter_mut().enumerate() {
+            *need = self.joint_need(touched, v);
+        }
+        needs
+    }
+
+    // The number is the last plain one of partition p's worker.
+    pub fn assign_plain(&mut self, p: WorkerId, number: u16)
+        ensures { self.new ≡ record { joints = self.old.joints; plains = slice_set self.old.plains p number } }
+    {
+        self.of[p.index()].plain = number;
+    }
+
+    // The number is the last joint one of these partitions.
+    pub fn assign_joint(&mut self, touched: &[bool; 16], number: u16)
+        ensures { self.new ≡ record { joints = joints_after_of touched.now self.old.joints number; plains = self.old.plains } }
+    {
+        // By place: tried with `zip(touched)`, after which the proof knows nothing of the elements.
+        for (p, last) in self.of.iter_mut().enumerate() {
+            if touched[p] {
+                last.joint = number;
+            }
+        }
+    }
 }

@@ -1,11 +1,14 @@
-// A row of the log, the loops over its accesses, and what the last assigned numbers say.
+// Intentions and the rows of the log, the marks, and the last assigned numbers.
 #![tactic(auto)]
 
+mod intention;
 mod lasts;
 mod logrow;
-mod rows;
+mod marks;
 mod scans;
 
-pub use lasts::{joint_needs, joints_after};
+pub use intention::Intention;
+pub use lasts::LastNumbers;
 pub use logrow::LogRow;
-pub use scans::{known_cells, known_modes, set_marks};
+pub use marks::Marks;
+pub use scans::{first_unknown_cell, first_unknown_mode};

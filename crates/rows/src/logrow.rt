@@ -1,19 +1,26 @@
 // A row of the log: an intention, and what became of it.
-ghost use Rattle.std.specs.Prelude.{◌≡◌, ◌≤◌, true, take};
-ghost use Rattle.model.specs.Finding.{all};
-ghost use Rattle.rows.specs.Known.{known};
+ghost use Rattle.std.specs.Prelude.{◌≡◌};
+ghost use Rattle.model.specs.Book.{decided};
+ghost use Rattle.rows.specs.Views.{row_of};
 
+use super::intention::Intention;
 use model::Verdict;
-use terms::Access;
 
-// The first accesses of the eight are the intention's; each has a mark.
-#[derive(Clone, Copy, Drop)]
+#[derive(Drop)]
 pub struct LogRow {
-    pub(crate) snapshot: u16,
-    pub(crate) count: usize,
-    pub(crate) accesses: [Access; 8],
-    pub(crate) verdict: Verdict,
-    ghost some: { 1 ≤ count },
-    ghost few: { count ≤ 8 },
-    ghost marked: { all known (take count accesses) ≡ true },
+    pub intention: Intention,
+    pub verdict: Verdict,
+}
+
+impl LogRow {
+    // Records what became of the intention. A yes or no and no Verdict, which might be undecided.
+    pub fn decide(&mut self, commits: bool)
+        ensures { row_of self.new ≡ record { intention = (row_of self.old).intention; verdict = decided commits } }
+    {
+        self.verdict = if commits {
+            Verdict::Committed
+        } else {
+            Verdict::Aborted
+        };
+    }
 }

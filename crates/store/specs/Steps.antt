@@ -5,7 +5,7 @@ use Rattle.model.specs.State.{State, row_at, worker_at, with_worker, in_status}
 use Rattle.model.specs.Model.{next_number, pushed, posting, marking}
 use Rattle.model.specs.declared.status.Status.{Status}
 use Rattle.rows.specs.Lasts.{joint_needs_of, joints_after_of}
-use Rattle.workers.specs.Views.{plain_needs}
+use Rattle.workers.specs.Orders.{plain_needs}
 
 -- worker p has the next number as an order that needs the last joint number of partition p
 abbrev pub plain_assigned : State → ℕ → State

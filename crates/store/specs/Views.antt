@@ -16,6 +16,6 @@ view s = record {
   finished = s.finished;
   workers = workers_of s.workers;
   marks = s.marks;
-  joints = s.joints;
-  plains = s.plains;
+  joints = s.lasts.joints;
+  plains = s.lasts.plains;
 }

@@ -1,17 +1,17 @@
 // What is read of a store.
 ghost use Rattle.std.specs.Prelude.{◌≡◌, ◌<◌, ◌≤◌, true, length, sum_by, count_by, MatchOption, slice_index};
-ghost use Rattle.model.specs.Finding.{all, exists};
+ghost use Rattle.model.specs.Finding.{exists};
 ghost use Rattle.model.specs.State.{last_number, row_at, worker_at, mark_at, is_empty, is_on};
 ghost use Rattle.model.specs.Model.{oldest_at, lacks, queued_count_of};
-ghost use Rattle.rows.specs.Known.{known};
 ghost use Rattle.rows.specs.Views.{row_of};
 ghost use Rattle.workers.specs.Views.{IsOldest};
 ghost use Rattle.store.specs.Views.{view};
 
 use super::store::Store;
 use model::{Status, Verdict};
-use rows::LogRow;
-use terms::Access;
+use rows::{Intention, LogRow};
+use terms::WorkerId;
+use workers::OrderPlace;
 
 impl Store {
     // The last number that was appended.
@@ -37,30 +37,20 @@ impl Store {
         self.finished
     }
 
+    // The row of a number. Which numbers there are changes with the log, so that it is one stands in the clauses and in no type.
     fn row(&self, number: u16) -> &LogRow
         requires { (1 ≤ number) × (number ≤ last_number (view self.now)) }
         ensures { row_of result.now ≡ row_at (view self.now).rows number }
     {
-        &self.rows[number as usize - 1]
+        &self.rows[usize::from(number) - 1]
     }
 
-    // The snapshot of a number.
-    pub fn snapshot(&self, number: u16) -> u16
+    // The intention of a number.
+    pub fn intention(&self, number: u16) -> &Intention
         requires { (1 ≤ number) × (number ≤ last_number (view self.now)) }
-        ensures { result ≡ (row_at (view self.now).rows number).intention.snapshot }
+        ensures { result.now ≡ (row_at (view self.now).rows number).intention }
     {
-        self.row(number).snapshot()
-    }
-
-    // The accesses of a number.
-    pub fn accesses(&self, number: u16) -> &[Access]
-        requires { (1 ≤ number) × (number ≤ last_number (view self.now)) }
-        ensures value { result.now ≡ (row_at (view self.now).rows number).intention.accesses }
-        ensures some { 1 ≤ length result.now }
-        ensures few { length result.now ≤ 8 }
-        ensures marked { all known result.now ≡ true }
-    {
-        self.row(number).accesses()
+        &self.row(number).intention
     }
 
     // What is known of a number.
@@ -68,61 +58,54 @@ impl Store {
         requires { (1 ≤ number) × (number ≤ last_number (view self.now)) }
         ensures { result ≡ (row_at (view self.now).rows number).verdict }
     {
-        self.row(number).verdict()
+        self.row(number).verdict
     }
 
-    // What a worker is doing; one that is none of the sixteen is idle.
+    // What a worker is doing; one that is none of the sixteen is idle. Any number, since a ticket may hold any.
     pub fn status(&self, w: u8) -> Status
         ensures { result ≡ (worker_at (view self.now).workers w).status }
     {
-        if w > 15 {
-            return Status::Idle;
-        }
-        self.workers.status(w as usize)
+        WorkerId::new(w).map_or(Status::Idle, |w| self.workers.status(w))
     }
 
     // How many orders worker w has.
-    pub fn order_count(&self, w: u8) -> usize
-        requires { w < 16 }
+    pub fn order_count(&self, w: WorkerId) -> usize
         ensures value { result ≡ length (worker_at (view self.now).workers w).orders }
         ensures bound { result ≤ 16 }
     {
-        self.workers.order_count(w as usize)
+        self.workers.order_count(w)
     }
 
-    // The place of the oldest order of worker w in its row.
-    pub fn oldest_place(&self, w: u8) -> Option<usize>
-        requires { w < 16 }
-        ensures { MatchOption result (is_empty (worker_at (view self.now).workers w).orders ≡ true) (λ place. IsOldest self.now.workers w place) }
+    // Where the oldest order of worker w stands.
+    pub fn oldest_place(&self, w: WorkerId) -> Option<OrderPlace>
+        ensures { MatchOption result (is_empty (worker_at (view self.now).workers w).orders ≡ true) (λ at. (at.worker ≡ w) × IsOldest self.now.workers at) }
     {
-        self.workers.oldest_place(w as usize)
+        self.workers.oldest_place(w)
     }
 
-    // The number of the oldest order of worker w, which stands at this place.
-    pub fn oldest_number(&self, w: u8, place: usize) -> u16
-        requires low { w < 16 }
-        requires oldest { IsOldest self.now.workers w place }
-        ensures { result ≡ (oldest_at (view self.now) w).number }
+    // The number of the oldest order of a worker, which stands there.
+    pub fn oldest_number(&self, at: OrderPlace) -> u16
+        requires { IsOldest self.now.workers at }
+        ensures { result ≡ (oldest_at (view self.now) at.worker).number }
     {
-        self.workers.oldest_number(w as usize, place)
+        self.workers.oldest_number(at)
     }
 
-    // What the oldest order of worker w, which stands at this place, needs from worker v.
-    pub fn oldest_need(&self, w: u8, place: usize, v: u8) -> u16
-        requires low { (w < 16) × (v < 16) }
-        requires oldest { IsOldest self.now.workers w place }
-        ensures { result ≡ slice_index (oldest_at (view self.now) w).needs v }
+    // What the oldest order of a worker, which stands there, needs from worker v.
+    pub fn oldest_need(&self, at: OrderPlace, v: WorkerId) -> u16
+        requires { IsOldest self.now.workers at }
+        ensures { result ≡ slice_index (oldest_at (view self.now) at.worker).needs v }
     {
-        self.workers.oldest_need(w as usize, place, v as usize)
+        self.workers.oldest_need(at, v)
     }
 
-    // Whether the oldest order of worker w, which stands at this place, waits for one of the first workers.
-    pub fn waits(&self, w: u8, place: usize, workers: u8) -> bool
-        requires low { (w < 16) × (workers ≤ 16) }
-        requires oldest { IsOldest self.now.workers w place }
-        ensures { result ≡ exists (lacks (view self.now) (oldest_at (view self.now) w)) workers }
+    // Whether the oldest order of a worker, which stands there, waits for one of the first workers.
+    pub fn waits(&self, at: OrderPlace, workers: u8) -> bool
+        requires low { workers ≤ 16 }
+        requires oldest { IsOldest self.now.workers at }
+        ensures { result ≡ exists (lacks (view self.now) (oldest_at (view self.now) at.worker)) workers }
     {
-        self.workers.lacking(w as usize, place, workers as usize)
+        self.workers.lacking(at, workers)
     }
 
     // The last committed number with an access of this mode at this cell, or 0.
@@ -130,7 +113,7 @@ impl Store {
         requires { (cell ≤ 1023) × (mode < 4) }
         ensures { result ≡ mark_at (view self.now).marks cell mode }
     {
-        self.marks[4 * (cell as usize) + (mode as usize)]
+        self.marks.at(cell, mode)
     }
 
     // How many workers are open.

@@ -4,20 +4,17 @@ ghost use Rattle.model.specs.Finding.{all};
 ghost use Rattle.workers.specs.Views.{workers_of};
 ghost use Rattle.store.specs.Fits.{fits, order_count_of};
 
-use rows::LogRow;
+use rows::{LastNumbers, LogRow, Marks};
 use workers::Workers;
 
+// No impl Model: a clause says where a worker's oldest order stands in its row, which a state of the model doesn't show.
 #[derive(Drop)]
 pub struct Store {
     // number k stands at k - 1
     pub(crate) rows: Vec<LogRow>,
     pub(crate) workers: Workers,
-    // the mark of mode m at cell c stands at 4 c + m
-    pub(crate) marks: [u16; 4096],
-    // the last assigned joint number that touches each partition
-    pub(crate) joints: [u16; 16],
-    // the last assigned plain number of each worker
-    pub(crate) plains: [u16; 16],
+    pub(crate) marks: Marks,
+    pub(crate) lasts: LastNumbers,
     pub(crate) assigned: u16,
     pub(crate) finished: u16,
     ghost reserved: { 512 ≤ vec_capacity rows },

@@ -3,3 +3,5 @@ pub mod Numbers
 pub mod Rules
 pub mod Maps
 pub mod Refusals
+pub mod Failing
+pub mod Workers

@@ -2,5 +2,7 @@
 #![tactic(auto)]
 
 mod access;
+mod worker;
 
 pub use access::{ADD, Access, CELLS, LAST_CELL, LOG_LENGTH, MOST_PARTITIONS, READ, WRITE};
+pub use worker::WorkerId;

@@ -1,2 +1,4 @@
 pub mod Moves
+pub mod Orders
+pub mod Records
 pub mod Views

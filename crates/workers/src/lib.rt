@@ -3,15 +3,19 @@
 // from worker 0 alone.
 #![tactic(auto)]
 
+mod joint_order;
 mod moves;
-mod orders;
+mod order_kind;
+mod plain_order;
 mod reads;
 mod record;
 mod table;
 mod worker;
 mod writes;
 
+pub use joint_order::JointOrder;
 pub use moves::{Move, next_status};
-pub use orders::{JointOrder, PlainOrder};
+pub use order_kind::OrderKind;
+pub use plain_order::PlainOrder;
 pub use record::WorkerRecord;
-pub use table::Workers;
+pub use table::{OrderPlace, Workers};

@@ -15,6 +15,7 @@ pub enum Move {
 }
 
 // The status after the call; none where the call is not for a worker in this status.
+// One match on both, so that a reader sees every pair that goes on; a table of closures would spread them.
 pub fn next_status(status: Status, call: Move) -> Option<Status>
     ensures { result ≡ next_status_of status call }
 {

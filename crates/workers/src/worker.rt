@@ -1,19 +1,19 @@
 // What is done with one worker.
-ghost use Rattle.std.specs.Prelude.{◌≡◌, ◌<◌, ◌≤◌, [], ◌∷◌, ◌++◌, length, drop, is_ok, if◌then◌else◌, MatchOption, nat_lt, slice_index_or};
-ghost use Rattle.rings.specs.Rings.{held};
-ghost use Rattle.model.specs.State.{Order, no_worker, in_status};
-ghost use Rattle.model.specs.Model.{posting};
-ghost use Rattle.workers.specs.Views.{worker_of};
+ghost use Rattle.std.specs.Prelude.{◌≡◌, ◌<◌, ◌≤◌, true, length, MatchOption, slice_index};
+ghost use Rattle.model.specs.State.{no_worker, in_status, is_empty, is_on, oldest_of};
+ghost use Rattle.model.specs.Model.{posting, pushed, queued_count_of};
+ghost use Rattle.workers.specs.Records.{worker_of, IsOldestIn};
 
-use super::orders::{JointOrder, PlainOrder};
+use super::order_kind::OrderKind;
 use super::record::WorkerRecord;
 use model::Status;
-use rings::{Full, Places, drop_oldest, held_count, oldest_place, push};
+use rings::{Places, drop_oldest, held_count, oldest_place, push};
+use terms::WorkerId;
 
-impl<E: Copy> WorkerRecord<E> {
+impl<O: OrderKind> WorkerRecord<O> {
     // An idle worker without orders; the entry fills the row, and is never looked at.
-    pub(crate) fn new(entry: E) -> WorkerRecord<E>
-        ensures { (shown : E → Order) → worker_of shown result ≡ no_worker }
+    pub(crate) fn new(entry: O) -> WorkerRecord<O>
+        ensures { worker_of O.shown result ≡ no_worker }
     {
         WorkerRecord {
             status: Status::Idle,
@@ -23,58 +23,72 @@ impl<E: Copy> WorkerRecord<E> {
         }
     }
 
+    pub(crate) fn is_open(&self) -> bool
+        ensures { result ≡ is_on self.now.status }
+    {
+        self.status.is_open()
+    }
+
     // How many orders the worker has.
     pub(crate) fn order_count(&self) -> usize
-        ensures value { result ≡ length (held self.now.row self.now.places) }
+        ensures value { result ≡ length (worker_of O.shown self.now).orders }
         ensures bound { result ≤ 16 }
     {
         held_count(&self.row, self.places)
     }
 
+    // How many orders the worker has and is not open on.
+    pub(crate) fn queued_count(&self) -> u16
+        ensures value { result ≡ queued_count_of (worker_of O.shown self.now) }
+        ensures bound { result ≤ 16 }
+    {
+        let count = self.order_count() as u16;
+        count.saturating_sub(u16::from(self.is_open()))
+    }
+
     // The place of the oldest order in the row.
     pub(crate) fn oldest_place(&self) -> Option<usize>
-        ensures { MatchOption result (held self.now.row self.now.places ≡ []) (λ p. (p < 16) × ((d : E) → held self.now.row self.now.places ≡ slice_index_or self.now.row p d ∷ drop 1 (held self.now.row self.now.places))) }
+        ensures { MatchOption result (is_empty (worker_of O.shown self.now).orders ≡ true) (λ place. IsOldestIn O.shown self.now place) }
     {
         oldest_place(&self.row, self.places)
     }
 
+    // The number of the oldest order, which stands at this place.
+    pub(crate) fn oldest_number(&self, place: usize) -> u16
+        requires { IsOldestIn O.shown self.now place }
+        ensures { result ≡ (oldest_of (worker_of O.shown self.now).orders).number }
+    {
+        self.row[place].number()
+    }
+
+    // What the oldest order, which stands at this place, needs from worker v.
+    pub(crate) fn oldest_need(&self, place: usize, v: WorkerId) -> u16
+        requires { IsOldestIn O.shown self.now place }
+        ensures { result ≡ slice_index (oldest_of (worker_of O.shown self.now).orders).needs v }
+    {
+        self.row[place].need(v)
+    }
+
     pub(crate) fn set_status(&mut self, status: Status)
-        ensures { (shown : E → Order) → worker_of shown self.new ≡ in_status status (worker_of shown self.old) }
+        ensures { worker_of O.shown self.new ≡ in_status status (worker_of O.shown self.old) }
     {
         self.status = status;
     }
 
     // Posts the number, drops the oldest order and is idle.
     pub(crate) fn post(&mut self, number: u16)
-        ensures { (shown : E → Order) → worker_of shown self.new ≡ posting number (worker_of shown self.old) }
+        ensures { worker_of O.shown self.new ≡ posting number (worker_of O.shown self.old) }
     {
         drop_oldest(&self.row, &mut self.places);
         self.posted = number;
         self.status = Status::Idle;
     }
-}
 
-// Once for each kind: of a row of any type the prover does not say, after a loan, that it is what the ring left.
-impl WorkerRecord<PlainOrder> {
-    // Puts a plain order behind all others, if there is room.
-    pub(crate) fn push_plain(&mut self, order: PlainOrder) -> Result<(), Full>
-        ensures answer { is_ok result ≡ nat_lt (length (held self.old.row self.old.places)) 16 }
-        ensures orders { held self.new.row self.new.places ≡ (if is_ok result then held self.old.row self.old.places ++ order ∷ [] else held self.old.row self.old.places) }
-        ensures status { self.new.status ≡ self.old.status }
-        ensures posted { self.new.posted ≡ self.old.posted }
+    // Puts an order behind all others, for which there is room.
+    pub(crate) fn push(&mut self, order: O)
+        requires { length (worker_of O.shown self.old).orders < 16 }
+        ensures { worker_of O.shown self.new ≡ pushed (O.shown order) (worker_of O.shown self.old) }
     {
-        push(&mut self.row, &mut self.places, order)
-    }
-}
-
-impl WorkerRecord<JointOrder> {
-    // Puts a joint order behind all others, if there is room.
-    pub(crate) fn push_joint(&mut self, order: JointOrder) -> Result<(), Full>
-        ensures answer { is_ok result ≡ nat_lt (length (held self.old.row self.old.places)) 16 }
-        ensures orders { held self.new.row self.new.places ≡ (if is_ok result then held self.old.row self.old.places ++ order ∷ [] else held self.old.row self.old.places) }
-        ensures status { self.new.status ≡ self.old.status }
-        ensures posted { self.new.posted ≡ self.old.posted }
-    {
-        push(&mut self.row, &mut self.places, order)
+        let _ = push(&mut self.row, &mut self.places, order);
     }
 }

@@ -2,20 +2,23 @@
 ghost use Rattle.std.specs.Prelude.{◌≡◌, ◌<◌, length, replicate, IfOk, vec_len, slice_set};
 ghost use Rattle.model.specs.State.{worker_at, in_status, no_workers, no_worker};
 ghost use Rattle.model.specs.Model.{pushed, posting};
-ghost use Rattle.workers.specs.Views.{workers_of, orders_at, plain_order, joint_order, plain_workers};
+ghost use Rattle.workers.specs.Orders.{plain_order, joint_order};
+ghost use Rattle.workers.specs.Views.{workers_of, orders_at, plain_workers};
 
-use super::orders::{JointOrder, PlainOrder};
+use super::joint_order::JointOrder;
+use super::plain_order::PlainOrder;
 use super::record::WorkerRecord;
 use super::table::Workers;
 use model::Status;
 use std::alloc::{AllocError, Global};
+use terms::WorkerId;
 
 // The workers 1 to 15, all idle.
 fn idle_plain(heap: Global) -> Result<Vec<WorkerRecord<PlainOrder>>, AllocError>
     ensures { IfOk result (λ v. (vec_len v ≡ 15) × (plain_workers v.items ≡ replicate 15 no_worker)) }
 {
     let mut plain = Vec::with_capacity(heap, 15)?;
-    for i in 0..15usize {
+    for _ in 0..15usize {
         plain.push_reserved(WorkerRecord::new(PlainOrder { number: 0, need: 0 }));
     }
     Ok(plain)
@@ -34,41 +37,34 @@ impl Workers {
         Ok(Workers { joint, plain })
     }
 
-    pub fn set_status(&mut self, w: usize, status: Status)
-        requires { w < 16 }
+    pub fn set_status(&mut self, w: WorkerId, status: Status)
         ensures { workers_of self.new ≡ slice_set (workers_of self.old) w (in_status status (worker_at (workers_of self.old) w)) }
     {
-        if w == 0 {
-            let worker = &mut self.joint;
-            worker.set_status(status);
-            return;
+        match w.index() {
+            0 => self.joint.set_status(status),
+            p => self.plain[p - 1].set_status(status),
         }
-        let worker = &mut self.plain[w - 1];
-        worker.set_status(status);
     }
 
     // Worker w posts the number, drops its oldest order and is idle.
-    pub fn post(&mut self, w: usize, number: u16)
-        requires { w < 16 }
+    pub fn post(&mut self, w: WorkerId, number: u16)
         ensures { workers_of self.new ≡ slice_set (workers_of self.old) w (posting number (worker_at (workers_of self.old) w)) }
     {
-        if w == 0 {
-            let worker = &mut self.joint;
-            worker.post(number);
-            return;
+        match w.index() {
+            0 => self.joint.post(number),
+            p => self.plain[p - 1].post(number),
         }
-        let worker = &mut self.plain[w - 1];
-        worker.post(number);
     }
 
-    // Puts a plain order behind those of worker p, which has room for it.
-    pub fn push_plain(&mut self, p: usize, order: PlainOrder)
-        requires low { (0 < p) × (p < 16) }
+    // Puts a plain order behind those of worker p, which has room for it. Worker 0 has records of another type, so its
+    // push is a function of its own, without a number.
+    pub fn push_plain(&mut self, p: WorkerId, order: PlainOrder)
+        requires some { 0 < p }
         requires room { length (orders_at self.old p) < 16 }
-        ensures { workers_of self.new ≡ slice_set (workers_of self.old) p (pushed (plain_order order) (worker_at (workers_of self.old) p)) }
+        ensures after { workers_of self.new ≡ slice_set (workers_of self.old) p (pushed (plain_order order) (worker_at (workers_of self.old) p)) }
+        ensures low { p < 16 }
     {
-        let worker = &mut self.plain[p - 1];
-        let _ = worker.push_plain(order);
+        self.plain[p.index() - 1].push(order);
     }
 
     // Puts a joint order behind those of worker 0, which has room for it.
@@ -76,7 +72,6 @@ impl Workers {
         requires { length (orders_at self.old 0) < 16 }
         ensures { workers_of self.new ≡ slice_set (workers_of self.old) 0 (pushed (joint_order order) (worker_at (workers_of self.old) 0)) }
     {
-        let worker = &mut self.joint;
-        let _ = worker.push_joint(order);
+        self.joint.push(order);
     }
 }

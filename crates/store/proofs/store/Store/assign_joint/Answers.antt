@@ -1,8 +1,8 @@
-use Rattle.std.proofs.Common.{ℕ, ◌+◌, List, set, vec_len, refl, ap, ◌∙◌, arith}
+use Rattle.std.proofs.Common.{ℕ, ◌+◌, List, set, vec_len, ap, ◌∙◌, arith}
 use Rattle.std.proofs.lemmas.List.{length_push}
 use Rattle.model.specs.State.{Order, Worker, worker_at}
 use Rattle.model.specs.Model.{pushed}
-use Rattle.rows.specs.Lasts.{joints_after_of}
+use Rattle.rows.specs.Lasts.{LastLists, joints_after_of}
 use Rattle.workers.proofs.Tables.{workers-length}
 use Rattle.workers.specs.Views.{workers_of}
 use Rattle.store.specs.Views.{view}
@@ -24,14 +24,10 @@ invariant_of-self c =
     let fit = all_fit ws after 0 (pushed o (worker_at ws 0)) c.push_joint.ensures n s.fit (pushed_fits n (worker_at ws 0) o a b (omega arith) (omega (arith, c.requires.left))) in
     record { reserved = s.reserved; short = s.short; handed = omega (arith, c.requires.left); fit = fit; counted = omega (arith, counted, s.counted, length_push (worker_at ws 0).orders o) }
 
-pub returns : goal.returns
-returns c =
+pub returns-clause-after : goal.returns-clause-after
+returns-clause-after c =
     let s = c.args.self.now in
     let ws = workers_of s.workers in
     let workers = c.push_joint.ensures ∙ ap (λ (needs : List ℕ). set ws 0 (pushed (record { number = s.assigned + 1; needs = needs }) (worker_at ws 0))) c.joint_needs-needs.ensures in
-    record {
-      answer = refl;
-      after =
-          ap (λ (js : List ℕ). record { rows = (view s).rows; assigned = s.assigned + 1; finished = s.finished; workers = workers_of c.push_joint.new.self; marks = s.marks; joints = js; plains = s.plains }) c.joints_after-joints.ensures
-          ∙ ap (λ (xs : List Worker). record { rows = (view s).rows; assigned = s.assigned + 1; finished = s.finished; workers = xs; marks = s.marks; joints = joints_after_of c.args.touched.now s.joints (s.assigned + 1); plains = s.plains }) workers;
-    }
+    ap (λ (l : LastLists). record { rows = (view s).rows; assigned = s.assigned + 1; finished = s.finished; workers = workers_of c.push_joint.new.self; marks = s.marks; joints = l.joints; plains = l.plains }) c.assign_joint.ensures
+    ∙ ap (λ (xs : List Worker). record { rows = (view s).rows; assigned = s.assigned + 1; finished = s.finished; workers = xs; marks = s.marks; joints = joints_after_of c.args.touched.now s.lasts.joints (s.assigned + 1); plains = s.lasts.plains }) workers

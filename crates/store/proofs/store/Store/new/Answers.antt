@@ -1,6 +1,5 @@
-use Rattle.std.proofs.Common.{ap, arith}
-use Rattle.store.specs.Views.{rows_of}
-use Rattle.store.proofs.Reading.{fresh_fit, fresh_count, fresh_view}
+use Rattle.std.proofs.Common.{arith}
+use Rattle.store.proofs.Reading.{fresh_fit, fresh_count}
 use Rattle.store.proofs.store.Store.new.Goals as goal
 
 pub invariant_of-result : goal.invariant_of-result
@@ -8,9 +7,3 @@ invariant_of-result c =
     let w = c.in_ok-workers.ensures in
     let r = c.in_ok-rows.ensures in
     record { reserved = r.capacity; short = omega (arith, r.len); handed = omega arith; fit = fresh_fit _ _ w; counted = omega (arith, fresh_count _ w) }
-
-pub returns : goal.returns
-returns c =
-    let w = c.in_ok-workers.ensures in
-    let r = c.in_ok-rows.ensures in
-    fresh_view (ap rows_of r.items) w c.no_marks.ensures c.no_numbers.ensures c.no_numbers-2.ensures

@@ -1,8 +1,9 @@
-use Rattle.std.proofs.Common.{◌≡◌, ℕ, true, length, vec_len, ap, ◌∙◌, arith}
+use Rattle.std.proofs.Common.{◌≡◌, ℕ, true, false, subst, sym, length, vec_len, ap, ◌∙◌, arith}
+use Rattle.terms.proofs.Workers.{numbered}
 use Rattle.model.specs.State.{State, worker_at, is_empty, is_held_on}
 use Rattle.workers.specs.Views.{workers_of}
 use Rattle.workers.proofs.Tables.{workers-length}
-use Rattle.store.specs.Steps.{with_verdict, closed}
+use Rattle.store.specs.Steps.{with_verdict}
 use Rattle.store.specs.declared.store.Store.{Store}
 use Rattle.store.proofs.Fitting.{HeldOn, held_on}
 use Rattle.store.proofs.Reading.{row_count}
@@ -27,10 +28,6 @@ pub close-requires : goal.close-requires
 close-requires c =
     let s = c.args.self.now in
     let h = there s c.args.w c.args.number c.requires in
+    let is = numbered c.args.w c.in-Some.w (sym c.new.ensures ∙ c.in-Some.is) in
     let same = c.record_verdict.ensures ∙ ap (λ (t : State). with_verdict t c.args.number c.args.commits) c.mark_commit.ensures in
-    record { low = h.low; some = ap (λ (t : State). is_empty (worker_at t.workers c.args.w).orders) same ∙ h.some }
-
-pub returns : goal.returns
-returns c =
-    c.close.ensures
-    ∙ ap (λ (t : State). closed t c.args.w c.args.number) (c.record_verdict.ensures ∙ ap (λ (t : State). with_verdict t c.args.number c.args.commits) c.mark_commit.ensures)
+    ap (λ (t : State). is_empty (worker_at t.workers c.in-Some.w).orders) same ∙ subst (λ i. is_empty (worker_at (workers_of s.workers) i).orders ≡ false) is.0 h.some

@@ -4,4 +4,4 @@ use Rattle.workers.proofs.Records.{held_none}
 use Rattle.workers.proofs.record.WorkerRecord.new.Goals as goal
 
 pub returns : goal.returns
-returns g c shown = ap (λ xs. record { status = Idle; posted = 0; orders = map shown xs }) (held_none _ c.new.result c.new.ensures.len)
+returns g c = ap (λ xs. record { status = Idle; posted = 0; orders = map g.O.OrderKind.shown xs }) (held_none _ c.new.result c.new.ensures.len)

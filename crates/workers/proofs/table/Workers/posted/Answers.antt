@@ -1,7 +1,0 @@
-use Rattle.std.proofs.Common.{sym, ap, arith}
-use Rattle.model.specs.State.{Worker}
-use Rattle.workers.proofs.Tables.{at_plain}
-use Rattle.workers.proofs.table.Workers.posted.Goals as goal
-
-pub returns : goal.returns
-returns c = sym (ap (λ (x : Worker). x.posted) (at_plain c.args.self.now c.args.w c.index.result.now (omega arith) c.requires c.index.ensures))
