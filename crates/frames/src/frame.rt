@@ -1,6 +1,5 @@
 // What one line of a log asks for.
-ghost use Rattle.std.specs.Prelude.{◌≡◌, [], replicate};
-ghost use Rattle.terms.specs.Accesses.{access};
+ghost use Rattle.std.specs.Prelude.{◌≡◌, []};
 ghost use Rattle.frames.specs.Held.{content_of};
 ghost use Rattle.frames.specs.Kinds.{kind_of};
 
@@ -67,19 +66,18 @@ impl Frame<'_> {
 #[derive(Drop)]
 pub struct Room {
     pub(super) bytes: ArrayVec<u8, LONGEST_FRAME>,
-    // An array and no `ArrayVec`, which wants a default, and no access is that.
-    pub(super) accesses: [Access; MOST_ACCESSES],
+    pub(super) accesses: ArrayVec<Access, MOST_ACCESSES>,
 }
 
 impl Room {
     // A blank room.
     pub fn new() -> Room
         ensures bytes { result.bytes.items ≡ [] }
-        ensures accesses { result.accesses ≡ replicate MOST_ACCESSES (access 0 0) }
+        ensures accesses { result.accesses.items ≡ [] }
     {
         Room {
             bytes: ArrayVec::new(),
-            accesses: [Access { mode: 0, cell: 0 }; MOST_ACCESSES],
+            accesses: ArrayVec::new(),
         }
     }
 }

@@ -31,6 +31,7 @@ mod tests {
             return Err(Fail::new("8 accesses were refused"));
         };
         assert_eq!(rt; snapshot, 0);
+        assert_eq!(rt; accesses.len(), 8);
         assert_eq!(rt; accesses, [Access { mode: 1, cell: 1 }; 8].as_slice());
         let line = b"01000009010001010001010001010001010001010001010001010001010001";
         assert_eq!(rt;

@@ -11,6 +11,7 @@ use super::fault::LineFault;
 use super::frame::{Frame, Room};
 use super::hex::decode;
 use super::kind::{Kind, LONGEST_FRAME, MOST_ACCESSES};
+use arrayvec::ArrayVec;
 use terms::{Access, CELLS};
 
 // The frame that the characters of a line say; they end before the line feed.
@@ -39,7 +40,7 @@ pub fn read_line<'a>(line: &[u8], room: &'a mut Room) -> Result<Frame<'a>, LineF
 fn frame_of_kind<'a>(
     kind: Kind,
     bytes: &'a [u8],
-    accesses: &'a mut [Access; MOST_ACCESSES],
+    accesses: &'a mut ArrayVec<Access, MOST_ACCESSES>,
 ) -> Option<Frame<'a>>
     ensures { option_map content_of result ≡ said_in kind bytes.now }
 {
@@ -65,7 +66,10 @@ fn frame_of_kind<'a>(
 }
 
 // An append, if the row is as long as its count of accesses says.
-fn append_in<'a>(bytes: &'a [u8], accesses: &'a mut [Access; MOST_ACCESSES]) -> Option<Frame<'a>>
+fn append_in<'a>(
+    bytes: &'a [u8],
+    accesses: &'a mut ArrayVec<Access, MOST_ACCESSES>,
+) -> Option<Frame<'a>>
     ensures { option_map content_of result ≡ said_in Kind.Append bytes.now }
 {
     let [_, high, low, count, fields @ ..] = bytes else {
@@ -76,13 +80,13 @@ fn append_in<'a>(bytes: &'a [u8], accesses: &'a mut [Access; MOST_ACCESSES]) -> 
         return None;
     }
     let (triples, _) = fields.as_chunks::<3>();
-    // Each at its place: tried with `iter_mut` and `zip`, after which no proof knows what the row holds.
-    for (i, triple) in triples.iter().enumerate() {
-        accesses[i] = access_from(*triple);
+    accesses.clear();
+    for triple in triples {
+        accesses.push(access_from(*triple));
     }
     Some(Frame::Append {
         snapshot: u16::from_be_bytes([*high, *low]),
-        accesses: &accesses[..count],
+        accesses: accesses.as_slice(),
     })
 }
 
