@@ -3,9 +3,9 @@ ghost use Rattle.std.specs.Prelude.{◌≡◌, []};
 ghost use Rattle.frames.specs.Held.{content_of};
 ghost use Rattle.frames.specs.Kinds.{kind_of};
 
-use super::kind::{Kind, LONGEST_FRAME, MOST_ACCESSES};
+use super::kind::{Kind, LONGEST_FRAME};
 use arrayvec::ArrayVec;
-use terms::Access;
+use terms::{Access, MOST_ACCESSES};
 
 // A frame borrows its accesses or its table: from the caller who writes it, or from the room it was read into.
 // Its rule, its worker and the others are numbers, since the format takes any; which are in range is for the certifier to say.

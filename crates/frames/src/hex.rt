@@ -45,7 +45,7 @@ pub fn put(line: &mut ArrayVec<u8, LONGEST_LINE>, bytes: &[u8])
     }
 }
 
-// The two digits of a byte, the high one first.
+// The two digits of a byte, the high one first. By hand: `{:02X}` writes text, and a line is bytes.
 pub fn hex_pair(byte: u8) -> [u8; 2]
     ensures { result ≡ hex_of (byte ∷ []) }
 {

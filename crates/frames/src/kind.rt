@@ -5,9 +5,6 @@ ghost use Rattle.frames.specs.Kinds.{byte_of, kind_from};
 use super::fault::LineFault;
 use terms::CELLS;
 
-// An append has at most this many accesses.
-pub const MOST_ACCESSES: usize = 8;
-
 // The longest frame sets up a listed map: kind, rule, n and an entry for each cell.
 pub const LONGEST_FRAME: usize = 3 + CELLS;
 

@@ -10,9 +10,9 @@ ghost use Rattle.frames.specs.RoundTrips.{ReadIsWritten};
 use super::fault::LineFault;
 use super::frame::{Frame, Room};
 use super::hex::decode;
-use super::kind::{Kind, LONGEST_FRAME, MOST_ACCESSES};
+use super::kind::{Kind, LONGEST_FRAME};
 use arrayvec::ArrayVec;
-use terms::{Access, CELLS};
+use terms::{Access, CELLS, MOST_ACCESSES};
 
 // The frame that the characters of a line say; they end before the line feed.
 pub fn read_line<'a>(line: &[u8], room: &'a mut Room) -> Result<Frame<'a>, LineFault>
@@ -90,7 +90,8 @@ fn append_in<'a>(
     })
 }
 
-// The access in three bytes: its mode, and its cell with the high byte first.
+// The access in three bytes: its mode, and its cell with the high byte first. A function and no `From`: the bytes are the
+// format's, and the access belongs to the crate below.
 fn access_from(bytes: [u8; 3]) -> Access
     ensures { result ≡ access (slice_index bytes 0) (256 * slice_index bytes 1 + slice_index bytes 2) }
 {

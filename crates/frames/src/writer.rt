@@ -10,9 +10,9 @@ ghost use Rattle.frames.specs.Writing.{unless, write_answer, buffer_after};
 use super::fault::WriteFault;
 use super::frame::Frame;
 use super::hex::put;
-use super::kind::{LONGEST_LINE, MOST_ACCESSES};
+use super::kind::LONGEST_LINE;
 use arrayvec::ArrayVec;
-use terms::{Access, CELLS};
+use terms::{Access, CELLS, MOST_ACCESSES};
 
 // Fills the start of the buffer with the frame's line and its line feed, and answers their length.
 pub fn write_line(frame: Frame<'_>, out: &mut [u8]) -> Result<usize, WriteFault>
@@ -59,6 +59,7 @@ fn put_frame(frame: Frame<'_>, line: &mut ArrayVec<u8, LONGEST_LINE>)
     match frame {
         Frame::Append { snapshot, accesses } => {
             put(line, &snapshot.to_be_bytes());
+            // `as`, since a frame that has a line has at most eight.
             put(line, &[accesses.len() as u8]);
             put_accesses(accesses, line);
         }

@@ -27,10 +27,7 @@ impl ReadLine<'_, '_> {
     fn is_written_back(self) -> bool
         ensures { result ≡ is_ok (read_answer self.entry.line.now) }
     {
-        match self.reading {
-            Ok(frame) => is_line_of(frame, self.line),
-            Err(_) => false,
-        }
+        self.reading.is_ok_and(|frame| is_line_of(frame, self.line))
     }
 }
 

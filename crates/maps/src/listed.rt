@@ -53,7 +53,7 @@ impl ListedMap {
 fn first_bad_entry(n: Partitions, table: &[u8]) -> Option<usize>
     ensures { result ≡ position (λ p. not (within 1 n.count p)) table.now }
 {
-    table.iter().position(|entry| !n.contain(*entry))
+    table.iter().position(|entry| !n.contains(*entry))
 }
 
 impl CellMap for ListedMap {

@@ -26,7 +26,7 @@ impl Partitions {
     }
 
     // Partitions are numbered from 1, and 0 is none.
-    pub fn contain(self, partition: u8) -> bool
+    pub fn contains(self, partition: u8) -> bool
         ensures { result ≡ within 1 self.count partition }
     {
         (1..=self.count).contains(&partition)

@@ -37,6 +37,7 @@ impl CellMap for ResidueMap {
         if cell > LAST_CELL {
             return 0;
         }
+        // `as`, since a remainder by n is proved to fit.
         1 + (cell % u16::from(self.n.count())) as u8
     }
 }

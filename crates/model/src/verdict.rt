@@ -1,6 +1,6 @@
 // What becomes of an intention.
 
-// What is known of an intention by its number.
+// What is known of an intention by its number. Three cases and no Option of two: undecided is an answer of the format.
 #[derive(Clone, Copy, Debug, Default, PartialEq, Eq)]
 pub enum Verdict {
     // It is not finished.

@@ -1,11 +1,10 @@
 -- Steps of the loops over accesses.
-use Rattle.std.proofs.Common.{◌≡◌, ℕ, zero, suc, ◌+◌, ◌*◌, ◌<◌, ◌≤◌, Bool, true, ltb, List, [], ◌∷◌, length, get_or, drop, set, arith}
+use Rattle.std.proofs.Common.{◌≡◌, ℕ, zero, suc, ◌+◌, ◌*◌, ◌<◌, ◌≤◌, Bool, true, List, [], ◌∷◌, length, get_or, drop, set, arith}
 use Rattle.std.proofs.lemmas.List.{at_drop_more, at_drop_all}
-use Rattle.std.proofs.lemmas.Bool.{and_parts, ltb-true, leb-true}
+use Rattle.std.proofs.lemmas.Bool.{and_parts}
 use Rattle.terms.specs.declared.access.Access.{Access}
 use Rattle.model.specs.Finding.{all}
 use Rattle.model.specs.Model.{marking}
-use Rattle.rows.specs.Known.{known}
 
 abbrev pub no_access : Access
 no_access = record { mode = 0; cell = 0 }
@@ -15,11 +14,6 @@ unfolding all
 all_at p [] i d l h = absurd (omega arith)
 all_at p (x ∷ xs) zero d l h = (and_parts (p x) _ h).0
 all_at p (x ∷ xs) (suc i) d l h = all_at p xs i d (omega arith) (and_parts (p x) _ h).1
-
-pub known_at : (xs : List Access) (i : ℕ) (d : Access) → i < length xs → all known xs ≡ true → ((get_or xs i d).mode < 4) × ((get_or xs i d).cell ≤ 1023)
-known_at xs i d l h =
-    let (x, y) = and_parts (ltb (get_or xs i d).mode 4) _ (all_at known xs i d l h) in
-    (ltb-true _ _ x, leb-true _ _ y)
 
 pub marking_more : (k : ℕ) (accesses : List Access) (i : ℕ) (d : Access) (marks : List ℕ) → i < length accesses → marking k (drop i accesses) marks ≡ marking k (drop (i + 1) accesses) (set marks (4 * (get_or accesses i d).cell + (get_or accesses i d).mode) k)
 unfolding marking

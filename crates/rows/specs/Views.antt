@@ -1,4 +1,4 @@
--- What a row of the log shows, and marks kept cell by cell. Assumes nothing.
+-- What a row of the log shows. Assumes nothing.
 use Rattle.model.specs.State.{Row}
 use Rattle.rows.specs.declared.logrow.LogRow.{LogRow}
 

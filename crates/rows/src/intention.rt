@@ -5,13 +5,13 @@ ghost use Rattle.rows.specs.Known.{known};
 
 use arrayvec::ArrayVec;
 use std::marker::Model;
-use terms::Access;
+use terms::{Access, MOST_ACCESSES};
 
-// It has 1 to 8 accesses, each of which has a mark. They stand in the row itself: a full log asks for no memory.
+// It has 1 to 8 accesses, each of which has a mark. They stand in the intention itself, so a full log asks for no memory.
 #[derive(Drop)]
 pub struct Intention {
     snapshot: u16,
-    accesses: ArrayVec<Access, 8>,
+    accesses: ArrayVec<Access, MOST_ACCESSES>,
 }
 
 impl Model for Intention {

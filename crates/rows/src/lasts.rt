@@ -7,7 +7,7 @@ use std::marker::Model;
 use terms::WorkerId;
 
 // Of one partition: the last joint number that touches it, and the last plain number of its worker.
-#[derive(Clone, Copy)]
+#[derive(Clone, Copy, Debug, PartialEq, Eq)]
 struct Last {
     joint: u16,
     plain: u16,
@@ -16,7 +16,7 @@ struct Last {
 // Of every partition, by its number. None is 0 and no Option, as a need is told.
 #[derive(Drop)]
 pub struct LastNumbers {
-    of: [Last; 16],
+    by_partition: [Last; 16],
 }
 
 impl Model for LastNumbers {
@@ -25,9 +25,9 @@ impl Model for LastNumbers {
 
     ghost Value = { LastLists };
 
-    ghost view = { λ l. record { joints = map (λ x. x.joint) l.of; plains = map (λ x. x.plain) l.of } };
+    ghost view = { λ l. record { joints = map (λ x. x.joint) l.by_partition; plains = map (λ x. x.plain) l.by_partition } };
 
-    ghost invariant = { λ l. length l.of ≡ 16 };
+    ghost invariant = { λ l. length l.by_partition ≡ 16 };
 }
 
 impl LastNumbers {
@@ -36,7 +36,7 @@ impl LastNumbers {
         ensures { result ≡ record { joints = no_numbers_yet; plains = no_numbers_yet } }
     {
         LastNumbers {
-            of: [Last { joint: 0, plain: 0 }; 16],
+            by_partition: [Last { joint: 0, plain: 0 }; 16],
         }
     }
 
@@ -44,7 +44,7 @@ impl LastNumbers {
     pub fn plain_need(&self, p: WorkerId) -> u16
         ensures { result ≡ slice_index self.now.joints p }
     {
-        self.of[p.index()].joint
+        self.by_partition[p.index()].joint
     }
 
     // What a joint order that touches these partitions needs from worker v.
@@ -53,7 +53,7 @@ impl LastNumbers {
         ensures { result ≡ joint_need_of touched.now self.now.plains v }
     {
         if v > 0 && touched[v] {
-            self.of[v].plain
+            self.by_partition[v].plain
         } else {
             0
         }
@@ -64,6 +64,7 @@ impl LastNumbers {
         ensures { result ≡ joint_needs_of touched.now self.now.plains }
     {
         let mut needs = [0; 16];
+        // By place, as below.
         for (v, need) in needs.iter_mut().enumerate() {
             *need = self.joint_need(touched, v);
         }
@@ -74,7 +75,7 @@ impl LastNumbers {
     pub fn assign_plain(&mut self, p: WorkerId, number: u16)
         ensures { self.new ≡ record { joints = self.old.joints; plains = slice_set self.old.plains p number } }
     {
-        self.of[p.index()].plain = number;
+        self.by_partition[p.index()].plain = number;
     }
 
     // The number is the last joint one of these partitions.
@@ -82,7 +83,7 @@ impl LastNumbers {
         ensures { self.new ≡ record { joints = joints_after_of touched.now self.old.joints number; plains = self.old.plains } }
     {
         // By place: tried with `zip(touched)`, after which the proof knows nothing of the elements.
-        for (p, last) in self.of.iter_mut().enumerate() {
+        for (p, last) in self.by_partition.iter_mut().enumerate() {
             if touched[p] {
                 last.joint = number;
             }

@@ -1,16 +1,17 @@
 // The marks: for each cell and each mode, the last committed number with such an access.
-ghost use Rattle.std.specs.Prelude.{◌≡◌, ◌+◌, ◌*◌, ◌<◌, ◌≤◌, [], ◌∷◌, replicate, slice_set};
+ghost use Rattle.std.specs.Prelude.{◌≡◌, true, ◌+◌, ◌*◌, ◌<◌, ◌≤◌, [], ◌∷◌, replicate, slice_set};
+ghost use Rattle.model.specs.Finding.{all};
 ghost use Rattle.model.specs.State.{no_marks_yet, mark_at};
+ghost use Rattle.rows.specs.Known.{known};
 ghost use Rattle.model.specs.Model.{marking};
 
-use super::intention::Intention;
 use std::marker::Model;
-use terms::CELLS;
+use terms::{Access, CELLS};
 
 // A cell has a mark for each of the four modes that a rule may know.
 #[derive(Drop)]
 pub struct Marks {
-    of: [[u16; 4]; CELLS],
+    by_cell: [[u16; 4]; CELLS],
 }
 
 impl Model for Marks {
@@ -19,11 +20,12 @@ impl Model for Marks {
 
     ghost Value = { List ℕ };
 
-    ghost view = { λ m. concat m.of };
+    ghost view = { λ m. concat m.by_cell };
 
-    ghost invariant = { λ m. All (λ marks. length marks ≡ 4) m.of };
+    ghost invariant = { λ m. All (λ marks. length marks ≡ 4) m.by_cell };
 }
 
+// A function of its own: so the prover takes the table from a clause, and doesn't write out its rows.
 fn no_marks() -> [[u16; 4]; CELLS]
     ensures { result ≡ replicate 1024 (0 ∷ 0 ∷ 0 ∷ 0 ∷ []) }
 {
@@ -35,7 +37,9 @@ impl Marks {
     pub fn new() -> Marks
         ensures { result ≡ no_marks_yet }
     {
-        Marks { of: no_marks() }
+        Marks {
+            by_cell: no_marks(),
+        }
     }
 
     // The last committed number with an access of this mode at this cell, or 0. The cell is an access's and the mode another's,
@@ -44,24 +48,25 @@ impl Marks {
         requires { (cell ≤ 1023) × (mode < 4) }
         ensures { result ≡ mark_at self.now cell mode }
     {
-        let of_cell = self.of[usize::from(cell)];
+        let of_cell = &self.by_cell[usize::from(cell)];
         of_cell[usize::from(mode)]
     }
 
-    // Sets the mark of this mode at this cell.
-    fn set_at(&mut self, cell: u16, mode: u8, number: u16)
-        requires { (cell ≤ 1023) × (mode < 4) }
-        ensures { self.new ≡ slice_set self.old (4 * cell + mode) number }
+    // Sets the mark of an access to a number.
+    fn set_one(&mut self, access: Access, number: u16)
+        requires { known access ≡ true }
+        ensures { self.new ≡ slice_set self.old (4 * access.cell + access.mode) number }
     {
-        self.of[usize::from(cell)][usize::from(mode)] = number;
+        self.by_cell[usize::from(access.cell)][usize::from(access.mode)] = number;
     }
 
-    // Sets the mark of each access of the intention to its number.
-    pub fn set(&mut self, intention: &Intention, number: u16)
-        ensures { self.new ≡ marking number intention.now.accesses self.old }
+    // Sets the mark of each access to a number.
+    pub fn set(&mut self, accesses: &[Access], number: u16)
+        requires { all known accesses.now ≡ true }
+        ensures { self.new ≡ marking number accesses.now self.old }
     {
-        for access in intention.accesses() {
-            self.set_at(access.cell, access.mode, number);
+        for access in accesses {
+            self.set_one(*access, number);
         }
     }
 }

@@ -1,5 +1,5 @@
 // What every clash rule shows of itself.
-ghost use Rattle.std.specs.Prelude.{◌≡◌, ℕ};
+ghost use Rattle.std.specs.Prelude.{◌≡◌, ◌<◌, ℕ};
 ghost use Rattle.terms.specs.Rules.{RuleMeaning, LawfulRule, clashes};
 
 pub trait ClashRule {
@@ -15,7 +15,7 @@ pub trait ClashRule {
 
     // Whether an earlier mode and a later one clash, for modes that the rule knows.
     fn relates(&self, earlier: u8, later: u8) -> bool
-        ensures { result ≡ meaning.relation earlier later };
+        ensures { earlier < meaning.modes → later < meaning.modes → result ≡ meaning.relation earlier later };
 
     // Whether an earlier mode and a later one clash; a mode that the rule does not know clashes with every mode.
     fn clash(&self, earlier: u8, later: u8) -> bool

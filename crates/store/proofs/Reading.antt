@@ -1,8 +1,8 @@
 -- The rows of a store, read and written at one number, and a store when it is made.
-use Rattle.std.proofs.Common.{◌≡◌, ℕ, ◌<◌, true, List, [], length, get_or, set, vec_items, vec_len, sum_by, Vec, sym, ap, ◌∙◌}
+use Rattle.std.proofs.Common.{◌≡◌, ℕ, ◌<◌, true, List, length, get_or, set, vec_items, vec_len, sum_by, Vec, sym, ap, ◌∙◌}
 use Rattle.std.proofs.lemmas.List.{length-map, get_or-map, map-set}
 use Rattle.model.specs.Finding.{all}
-use Rattle.model.specs.State.{Row, Worker, State, no_row, no_workers, no_marks_yet, no_numbers_yet, fresh}
+use Rattle.model.specs.State.{Row, Worker, no_row, no_workers}
 use Rattle.rows.specs.Views.{row_of}
 use Rattle.rows.specs.declared.logrow.LogRow.{LogRow}
 use Rattle.store.specs.Fits.{fits, order_count_of}
@@ -26,6 +26,3 @@ fresh_fit n ws e = ap (all (fits n)) e
 pub fresh_count : (ws : List Worker) → ws ≡ no_workers → sum_by order_count_of ws ≡ 0
 unfolding no_workers
 fresh_count ws e = ap (sum_by order_count_of) e
-
-pub fresh_view : {rows : List Row} {ws : List Worker} {marks joints plains : List ℕ} → rows ≡ [] → ws ≡ no_workers → marks ≡ no_marks_yet → joints ≡ no_numbers_yet → plains ≡ no_numbers_yet → ◌≡◌ {A = State} (record { rows = rows; assigned = 0; finished = 0; workers = ws; marks = marks; joints = joints; plains = plains }) fresh
-fresh_view a b c d e = cc

@@ -19,6 +19,7 @@ impl Store {
         ensures value { result ≡ last_number (view self.now) }
         ensures bound { result ≤ 512 }
     {
+        // `as`, since it is proved to fit: a `try_from` would bring a refusal that cannot be.
         self.rows.len() as u16
     }
 
@@ -68,7 +69,7 @@ impl Store {
         WorkerId::new(w).map_or(Status::Idle, |w| self.workers.status(w))
     }
 
-    // How many orders worker w has.
+    // How many orders worker w has. With its bound, since callers count with it.
     pub fn order_count(&self, w: WorkerId) -> usize
         ensures value { result ≡ length (worker_at (view self.now).workers w).orders }
         ensures bound { result ≤ 16 }
@@ -83,7 +84,7 @@ impl Store {
         self.workers.oldest_place(w)
     }
 
-    // The number of the oldest order of a worker, which stands there.
+    // The number of the oldest order of a worker, which stands at this place.
     pub fn oldest_number(&self, at: OrderPlace) -> u16
         requires { IsOldest self.now.workers at }
         ensures { result ≡ (oldest_at (view self.now) at.worker).number }
@@ -91,7 +92,7 @@ impl Store {
         self.workers.oldest_number(at)
     }
 
-    // What the oldest order of a worker, which stands there, needs from worker v.
+    // What the oldest order of a worker, which stands at this place, needs from worker v.
     pub fn oldest_need(&self, at: OrderPlace, v: WorkerId) -> u16
         requires { IsOldest self.now.workers at }
         ensures { result ≡ slice_index (oldest_at (view self.now) at.worker).needs v }
@@ -99,7 +100,7 @@ impl Store {
         self.workers.oldest_need(at, v)
     }
 
-    // Whether the oldest order of a worker, which stands there, waits for one of the first workers.
+    // Whether the oldest order at this place waits for one of the first workers.
     pub fn waits(&self, at: OrderPlace, workers: u8) -> bool
         requires low { workers ≤ 16 }
         requires oldest { IsOldest self.now.workers at }

@@ -25,7 +25,7 @@ impl Store {
         });
     }
 
-    // Worker p takes the next number as a plain order.
+    // Worker p takes the next number as a plain order. That there is one, and room for it, the call has asked before.
     pub fn assign_plain(&mut self, p: WorkerId) -> u16
         requires some { 0 < p }
         requires left { (view self.old).assigned < last_number (view self.old) }
@@ -68,7 +68,7 @@ impl Store {
         Some(status)
     }
 
-    // Sets the marks of a number that commits.
+    // Sets the marks of a number that commits. A yes or no, as the book says it: which clash an abort has is not stored.
     fn mark_commit(&mut self, number: u16, commits: bool)
         requires { (1 ≤ number) × (number ≤ last_number (view self.old)) }
         ensures { view self.new ≡ with_marks (view self.old) number commits }
@@ -77,7 +77,7 @@ impl Store {
             return;
         }
         let row = &self.rows[usize::from(number) - 1];
-        self.marks.set(&row.intention, number);
+        self.marks.set(row.intention.accesses(), number);
     }
 
     // Records the verdict of a number.

@@ -20,6 +20,9 @@ pub const LAST_CELL: u16 = CELLS as u16 - 1;
 // Cells are spread over at most this many partitions.
 pub const MOST_PARTITIONS: u8 = 15;
 
+// An intention has at most this many accesses.
+pub const MOST_ACCESSES: usize = 8;
+
 // A log holds at most this many intentions.
 pub const LOG_LENGTH: usize = 512;
 

@@ -4,5 +4,7 @@
 mod access;
 mod worker;
 
-pub use access::{ADD, Access, CELLS, LAST_CELL, LOG_LENGTH, MOST_PARTITIONS, READ, WRITE};
+pub use access::{
+    ADD, Access, CELLS, LAST_CELL, LOG_LENGTH, MOST_ACCESSES, MOST_PARTITIONS, READ, WRITE,
+};
 pub use worker::WorkerId;

@@ -23,7 +23,7 @@ impl Model for WorkerId {
 }
 
 impl WorkerId {
-    // The worker of this number, if there is one.
+    // The worker of this number, if there is one. An Option and no `TryFrom`: who refuses the number has a cause of its own.
     pub fn new(number: u8) -> Option<WorkerId>
         ensures { result ≡ worker_numbered number }
     {

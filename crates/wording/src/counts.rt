@@ -5,7 +5,8 @@ ghost use Rattle.wording.specs.Kinds.{count_in, counted, more};
 use frames::Kind;
 use std::marker::Model;
 
-// A count for each kind, in the order of Kind::ALL, and one for the lines that do not read.
+// A count for each kind, in the order of Kind::ALL, and one for the lines that do not read. A kind's place is `kind as usize`,
+// which no `From` gives.
 #[derive(Drop)]
 pub struct Counts {
     of_kind: [usize; Kind::ALL.len()],

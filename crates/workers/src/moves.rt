@@ -5,7 +5,7 @@ ghost use Rattle.workers.specs.Moves.{next_status_of};
 use model::Status;
 
 // A call on a worker, with the number of the order that it is about.
-#[derive(Clone, Copy)]
+#[derive(Clone, Copy, Debug, PartialEq, Eq)]
 pub enum Move {
     Begin(u16),
     Park(u16),

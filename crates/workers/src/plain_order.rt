@@ -5,7 +5,7 @@ use super::order_kind::OrderKind;
 use terms::WorkerId;
 
 // Its number, and what it needs from worker 0.
-#[derive(Clone, Copy)]
+#[derive(Clone, Copy, Debug, PartialEq, Eq)]
 pub struct PlainOrder {
     pub number: u16,
     pub need: u16,

@@ -30,7 +30,7 @@ impl Workers {
         }
     }
 
-    // How many orders worker w has.
+    // How many orders worker w has. With its bound, since callers count with it.
     pub fn order_count(&self, w: WorkerId) -> usize
         ensures value { result ≡ length (orders_at self.now w) }
         ensures bound { result ≤ 16 }
@@ -52,7 +52,7 @@ impl Workers {
         place.map(|place| OrderPlace { worker: w, place })
     }
 
-    // The number of the oldest order of a worker, which stands there.
+    // The number of the oldest order of a worker, which stands at this place.
     pub fn oldest_number(&self, at: OrderPlace) -> u16
         requires { IsOldest self.now at }
         ensures { result ≡ (oldest_of (orders_at self.now at.worker)).number }
@@ -63,7 +63,7 @@ impl Workers {
         }
     }
 
-    // What the oldest order of a worker, which stands there, needs from worker v.
+    // What the oldest order of a worker, which stands at this place, needs from worker v.
     pub fn oldest_need(&self, at: OrderPlace, v: WorkerId) -> u16
         requires { IsOldest self.now at }
         ensures { result ≡ slice_index (oldest_of (orders_at self.now at.worker)).needs v }
@@ -79,6 +79,7 @@ impl Workers {
         ensures { result ≡ count_by (λ x. is_on x.status) (workers_of self.now) }
     {
         let plain = self.plain.iter().filter(|x| x.is_open()).count();
+        // `as`, since at most fifteen are counted.
         u8::from(self.joint.is_open()) + plain as u8
     }
 
@@ -86,6 +87,7 @@ impl Workers {
     pub fn queued_count(&self) -> u16
         ensures { result ≡ sum_by queued_count_of (workers_of self.now) }
     {
+        // A `for`: a `sum` of numbers of sixteen bits gets no bound from the prover.
         let mut count = self.joint.queued_count();
         for worker in &self.plain {
             count += worker.queued_count();
@@ -93,7 +95,7 @@ impl Workers {
         count
     }
 
-    // Whether worker v has not posted what the oldest order of a worker, which stands there, needs from it.
+    // Whether worker v has not posted what the oldest order at this place needs from it.
     fn lacks(&self, at: OrderPlace, v: u8) -> bool
         requires low { v < 16 }
         requires oldest { IsOldest self.now at }
@@ -102,7 +104,7 @@ impl Workers {
         WorkerId::new(v).is_some_and(|v| self.posted(v) < self.oldest_need(at, v))
     }
 
-    // Whether one of the first workers has not posted what the oldest order of a worker, which stands there, needs from it.
+    // Whether one of the first workers has not posted what the oldest order at this place needs from it.
     pub fn lacking(&self, at: OrderPlace, count: u8) -> bool
         requires low { count ≤ 16 }
         requires oldest { IsOldest self.now at }

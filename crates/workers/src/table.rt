@@ -12,7 +12,7 @@ use terms::WorkerId;
 #[derive(Drop)]
 pub struct Workers {
     pub(crate) joint: WorkerRecord<JointOrder>,
-    // worker p stands at p - 1
+    // worker p stands at p - 1; on the heap, so that a store is small to move
     pub(crate) plain: Vec<WorkerRecord<PlainOrder>>,
     ghost manned: { vec_len plain ≡ 15 },
 }

@@ -7,7 +7,7 @@ ghost use Rattle.workers.specs.Records.{worker_of, IsOldestIn};
 use super::order_kind::OrderKind;
 use super::record::WorkerRecord;
 use model::Status;
-use rings::{Places, drop_oldest, held_count, oldest_place, push};
+use rings::{CAPACITY, Places, drop_oldest, held_count, oldest_place, push};
 use terms::WorkerId;
 
 impl<O: OrderKind> WorkerRecord<O> {
@@ -18,7 +18,7 @@ impl<O: OrderKind> WorkerRecord<O> {
         WorkerRecord {
             status: Status::Idle,
             posted: 0,
-            row: [entry; 16],
+            row: [entry; CAPACITY],
             places: Places::new(),
         }
     }
@@ -42,6 +42,7 @@ impl<O: OrderKind> WorkerRecord<O> {
         ensures value { result ≡ queued_count_of (worker_of O.shown self.now) }
         ensures bound { result ≤ 16 }
     {
+        // `as`, since there are at most sixteen.
         let count = self.order_count() as u16;
         count.saturating_sub(u16::from(self.is_open()))
     }

@@ -56,8 +56,8 @@ impl Workers {
         }
     }
 
-    // Puts a plain order behind those of worker p, which has room for it. Worker 0 has records of another type, so its
-    // push is a function of its own, without a number.
+    // Puts a plain order behind those of worker p. There is room: a call refuses a full worker by its cause before it comes
+    // here. That p is one of the sixteen is promised back, for callers who hold p and never look at its number.
     pub fn push_plain(&mut self, p: WorkerId, order: PlainOrder)
         requires some { 0 < p }
         requires room { length (orders_at self.old p) < 16 }
@@ -67,7 +67,7 @@ impl Workers {
         self.plain[p.index() - 1].push(order);
     }
 
-    // Puts a joint order behind those of worker 0, which has room for it.
+    // The same for a joint order and worker 0, whose record is of another type.
     pub fn push_joint(&mut self, order: JointOrder)
         requires { length (orders_at self.old 0) < 16 }
         ensures { workers_of self.new ≡ slice_set (workers_of self.old) 0 (pushed (joint_order order) (worker_at (workers_of self.old) 0)) }

@@ -10,7 +10,7 @@ invariant_of-self c = length-set _ _ _ ∙ c.self.invariant
 
 pub returns : goal.returns
 returns c =
-    let of = c.self.inside.of in
+    let of = c.self.inside.by_partition in
     let x : Last = record { joint = (get_or of c.index.result none).joint; plain = c.args.number } in
     ap (λ (js : List ℕ). record { joints = js; plains = plains_of (set of c.index.result x) })
     (map-set (λ (y : Last). y.joint) of c.index.result x

@@ -4,4 +4,4 @@ use Rattle.rows.proofs.marks.Marks.set.Given as goal
 
 -- the accesses that are left make the rest of the marks
 abbrev pub invariant-loop-access : goal.invariant-loop-access
-invariant-loop-access l = marking l.number (drop l.access-index l.access-items) l.self ≡ marking l.number l.access-items l.initial.self
+invariant-loop-access l = marking l.number (drop l.access-index l.accesses) l.self ≡ marking l.number l.accesses l.initial.self
