@@ -1,6 +1,6 @@
 // Push at the back, find the oldest, drop the oldest, count.
-// A row is lent, with its places beside it: whoever keeps a row keeps it where it suits him, and its entries may be of any
-// type. Each function takes the row, since its contract speaks of the entries.
+// A row is lent, with its places beside it: whoever keeps a row keeps it where it suits, and its entries may be of any type.
+// Each function takes the row, since its contract speaks of the entries.
 ghost use Rattle.std.specs.Prelude.{◌≡◌, ◌<◌, ◌≤◌, [], ◌∷◌, ◌++◌, length, drop, is_ok, if◌then◌else◌, MatchOption, OnErr, nat_lt};
 ghost use Rattle.rings.specs.Rings.{held, IsOldestAt};
 

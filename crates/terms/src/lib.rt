@@ -1,4 +1,4 @@
-// The words that every layer shares: what an access is, and the numbers that modes, cells and partitions have.
+// The words that every layer shares: what an access is, and the numbers that modes, cells, partitions and workers have.
 #![tactic(auto)]
 
 mod access;
