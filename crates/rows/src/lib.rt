@@ -2,6 +2,7 @@
 #![tactic(auto)]
 
 mod intention;
+mod intentions;
 mod lasts;
 mod logrow;
 mod marks;

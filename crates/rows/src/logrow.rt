@@ -6,7 +6,7 @@ ghost use Rattle.rows.specs.Views.{row_of};
 use super::intention::Intention;
 use model::Verdict;
 
-#[derive(Drop)]
+#[derive(Clone, Copy)]
 pub struct LogRow {
     pub intention: Intention,
     pub verdict: Verdict,

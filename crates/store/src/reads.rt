@@ -3,7 +3,7 @@ ghost use Rattle.std.specs.Prelude.{◌≡◌, ◌<◌, ◌≤◌, true, length,
 ghost use Rattle.model.specs.Finding.{exists};
 ghost use Rattle.model.specs.State.{last_number, row_at, worker_at, mark_at, is_empty, is_on};
 ghost use Rattle.model.specs.Model.{oldest_at, lacks, queued_count_of};
-ghost use Rattle.rows.specs.Views.{row_of};
+ghost use Rattle.rows.specs.Views.{intention_of, row_of};
 ghost use Rattle.workers.specs.Views.{IsOldest};
 ghost use Rattle.store.specs.Views.{view};
 
@@ -49,7 +49,7 @@ impl Store {
     // The intention of a number.
     pub fn intention(&self, number: u16) -> &Intention
         requires { (1 ≤ number) × (number ≤ last_number (view self.now)) }
-        ensures { result.now ≡ (row_at (view self.now).rows number).intention }
+        ensures { intention_of result.now ≡ (row_at (view self.now).rows number).intention }
     {
         &self.row(number).intention
     }

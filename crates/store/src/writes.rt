@@ -2,6 +2,7 @@
 ghost use Rattle.std.specs.Prelude.{◌≡◌, ◌<◌, ◌≤◌, true, false, length};
 ghost use Rattle.model.specs.State.{last_number, worker_at, is_empty, is_held_on};
 ghost use Rattle.model.specs.Model.{append_leaves, next_number};
+ghost use Rattle.rows.specs.Views.{intention_of};
 ghost use Rattle.workers.specs.Moves.{next_status_of};
 ghost use Rattle.store.specs.Fits.{begins_oldest};
 ghost use Rattle.store.specs.Steps.{plain_assigned, joint_assigned, moved, with_marks, with_verdict, closed, settled};
@@ -17,7 +18,7 @@ impl Store {
     // Enters an intention under the next number.
     pub fn append(&mut self, intention: Intention)
         requires { last_number (view self.old) < 512 }
-        ensures { view self.new ≡ append_leaves (view self.old) intention.snapshot intention.accesses }
+        ensures { view self.new ≡ append_leaves (view self.old) (intention_of intention).snapshot (intention_of intention).accesses }
     {
         self.rows.push_reserved(LogRow {
             intention,
