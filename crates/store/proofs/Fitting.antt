@@ -97,6 +97,26 @@ module _ (ws after : List Worker) (w : ℕ) (x : Worker) (e : after ≡ set ws w
 none_some : {A : Type 0} (x : A) → ◌≡◌ {A = Option A} None (Some x) → ⊥
 none_some x e = let z : ◌≡◌ {A = ℕ} 0 1 = cc in omega arith
 
+on_oldest_none : (k : ℕ) → on_oldest [] k ≡ true → ⊥
+on_oldest_none k h = both_ways false refl h
+
+idle_stays : (call : Move) (status : Status) → begins_oldest [] call ≡ true → next_status_of Idle call ≡ Some status → ⊥
+idle_stays (Begin k) status b e = on_oldest_none k b
+idle_stays (Park k) status b e = none_some status e
+idle_stays Resume status b e = none_some status e
+idle_stays Recall status b e = none_some status e
+idle_stays (Finish k) status b e = none_some status e
+
+-- a worker that a call moves is one of the sixteen
+pub moves_low : (ws : List Worker) (w : ℕ) (call : Move) (status : Status) → length ws ≡ 16 → begins_oldest (worker_at ws w).orders call ≡ true → next_status_of (worker_at ws w).status call ≡ Some status → w < 16
+moves_low ws w call status long b e =
+    elim (cases_lt w 16) [
+      | inl l ↦ l
+      | inr l ↦
+          let none = get_or_past ws w no_worker (omega arith) in
+          absurd (idle_stays call status (subst (λ (x : Worker). begins_oldest x.orders call ≡ true) none b) (subst (λ (x : Worker). next_status_of x.status call ≡ Some status) none e))
+    ]
+
 some_is : {A : Type 0} (x y : A) → ◌≡◌ {A = Option A} (Some x) (Some y) → x ≡ y
 some_is x y e = cc
 

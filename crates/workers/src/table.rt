@@ -1,10 +1,9 @@
 // The table of the sixteen workers.
-ghost use Rattle.std.specs.Prelude.{◌≡◌, vec_len};
+ghost use Rattle.std.specs.Prelude.{◌≡◌, ◌<◌, vec_len};
 
 use super::joint_order::JointOrder;
 use super::plain_order::PlainOrder;
 use super::record::WorkerRecord;
-use terms::WorkerId;
 
 // Worker 0, and the workers 1 to 15 after it. Their records differ in type, so a function that reads or writes a worker
 // looks which it is: a `dyn` of both could not be handed out.
@@ -18,8 +17,10 @@ pub struct Workers {
 }
 
 // Where a worker's oldest order stands in its row. It is good until the worker's orders change.
+// The worker is a plain number: the prover takes no copy of a struct that holds one with a model, and a place is asked of twice.
 #[derive(Clone, Copy)]
 pub struct OrderPlace {
-    pub(crate) worker: WorkerId,
+    pub(crate) worker: usize,
     pub(crate) place: usize,
+    ghost low: { worker < 16 },
 }
