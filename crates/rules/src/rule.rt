@@ -21,7 +21,9 @@ pub trait ClashRule {
     fn clash(&self, earlier: u8, later: u8) -> bool
         ensures { result ≡ clashes meaning earlier later }
     {
-        earlier >= Self::MODES || later >= Self::MODES || self.relates(earlier, later)
+        // Asked first, so that an answer takes no jump that depends on the modes.
+        let related = self.relates(earlier, later);
+        earlier >= Self::MODES || later >= Self::MODES || related
     }
 
     // Every rule proves that its constant is the count of its meaning.
