@@ -14,7 +14,8 @@ pub invariant_of-self : goal.invariant_of-self
 invariant_of-self c =
     let s = c.args.self.now in
     let ws = workers_of s.workers in
-    let o : Order = record { number = s.assigned + 1; needs = c.joint_needs-needs.result } in
+    -- whatever it needs
+    let o : Order = record { number = s.assigned + 1; needs = _ } in
     let long = workers-length s.workers in
     let rows = row_count s.rows in
     let n = vec_len s.rows in
