@@ -1,6 +1,6 @@
 -- Reading and writing undo each other.
-use Rattle.std.proofs.Common.{◌≡◌, ℕ, ◌-◌, ◌%◌, Bool, false, eqb, ltb, List, [], ◌∷◌, ◌++◌, length, take, drop, None, Ok, Err, Result, sym, ap, ◌∙◌, inl, inr, arith}
-use Rattle.std.proofs.lemmas.List.{append_assoc, length_push, take_at}
+use Rattle.std.proofs.Common.{◌≡◌, ℕ, ◌+◌, ◌-◌, ◌%◌, Bool, false, eqb, ltb, List, [], ◌∷◌, length, take, drop, None, Ok, Err, Result, sym, ap, ◌∙◌, inl, inr, arith}
+use Rattle.std.proofs.lemmas.List.{append_assoc, take_at}
 use Rattle.std.proofs.lemmas.List.Sums.{prefix_len-le-length}
 use Rattle.std.proofs.lemmas.Bool.{cases_Bool, cond-true, cond-false, ne_eqb, eqb-false, le-ltb, ltb-false}
 use Rattle.std.specs.List.{prefix_len}
@@ -11,7 +11,7 @@ use Rattle.frames.specs.Hex.{is_hex_digit, hex_of, bytes_in}
 use Rattle.frames.specs.Contents.{Content, bytes_of, line_of, no_line_of, FieldsFit, Writable}
 use Rattle.frames.specs.Reading.{frame_in, read_answer}
 use Rattle.frames.specs.RoundTrips.{ReadIsWritten}
-use Rattle.frames.specs.Writing.{written}
+use Rattle.frames.specs.Writing.{over, written}
 use Rattle.frames.proofs.HexLaws.{length-hex_of, bytes_in-hex_of, digits-hex_of, hex_of-bytes_in}
 use Rattle.frames.proofs.ContentLaws.{bytes-bytes_of, frame_in-bytes_of, bytes_of-frame_in}
 
@@ -50,12 +50,11 @@ pub answer_is_written : (r : Result Content LineFault) (line : List ℕ) → r �
 answer_is_written (Ok f) line e = read_is_written line f (sym e)
 answer_is_written (Err x) line e = tt
 
--- and of the line that the writer leaves at the start of the buffer
-pub buffer_reads : (f : Content) (line out : List ℕ) (n : ℕ) → no_line_of f ≡ None → FieldsFit f → line ≡ written f → n ≡ length line → read_answer (take (n - 1) (line ++ drop n out)) ≡ Ok f
-buffer_reads f line out n held fit e l =
-    let k = length_push (line_of f) 10 in
-    let m = ap length e in
-    let a = append_assoc (line_of f) (10 ∷ []) (drop n out) in
-    let t = take_at (line_of f) (10 ∷ drop n out) (n - 1) (omega arith) in
-    let q : take (n - 1) (line ++ drop n out) ≡ line_of f = cc in
+-- and of the buffer that the writer leaves
+pub buffer_reads : (f : Content) (out out' : List ℕ) (n : ℕ) → no_line_of f ≡ None → FieldsFit f → n ≡ length (line_of f) → out' ≡ over (written f) out → read_answer (take (n + 1 - 1) out') ≡ Ok f
+buffer_reads f out out' n held fit e o =
+    let k : n + 1 - 1 ≡ n = omega arith in
+    let a = append_assoc (line_of f) (10 ∷ []) (drop (length (written f)) out) in
+    let t = take_at (line_of f) (10 ∷ drop (length (written f)) out) n (sym e) in
+    let q : take (n + 1 - 1) out' ≡ line_of f = cc in
     ap read_answer q ∙ written_reads f (record { held = held; fit = fit })

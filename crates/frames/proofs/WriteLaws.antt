@@ -1,15 +1,15 @@
 -- Lines of frames, written part by part.
-use Rattle.std.proofs.Common.{◌≡◌, ℕ, suc, ◌+◌, ◌*◌, ◌/◌, ◌%◌, ◌<◌, ◌≤◌, List, [], ◌∷◌, ◌++◌, length, get_or, take, Some, None, Ok, Option, Result, sym, refl, ap, ◌∙◌, subst, arith}
-use Rattle.std.proofs.lemmas.List.{append_assoc, length-append, length-take-le, take_more}
+use Rattle.std.proofs.Common.{◌≡◌, ℕ, suc, ◌+◌, ◌*◌, ◌/◌, ◌%◌, ◌<◌, ◌≤◌, List, [], ◌∷◌, ◌++◌, length, get_or, take, drop, Some, None, Ok, Option, Result, sym, refl, ap, subst, arith}
+use Rattle.std.proofs.lemmas.List.{length-take-le, take_more}
 use Rattle.terms.specs.declared.access.Access.{Access}
 use Rattle.frames.specs.declared.fault.WriteFault.{WriteFault}
 use Rattle.frames.specs.Hex.{hex_of, Bytes}
 use Rattle.frames.specs.Contents.{Content, access_bytes, line_of, no_line_of, AccessesFit}
 use Rattle.frames.specs.Contents.Content.{append, assign, begin_park, resume_finish, verdict, tally, set_up_residue, set_up_listed}
-use Rattle.frames.specs.Writing.{unless}
+use Rattle.frames.specs.Writing.{over, unless}
 use Rattle.frames.proofs.HexLaws.{length-hex_of}
 use Rattle.frames.proofs.ContentLaws.{few_accesses, whole_table, length-access_bytes}
-use Rattle.frames.proofs.PutLaws.{hex_of-append}
+use Rattle.frames.proofs.PutLaws.{hex_of-append, over_more}
 
 pub length-append_line : (s : ℕ) (xs : List Access) → length (line_of (append s xs)) ≡ 8 + 6 * length xs
 length-append_line s xs = omega (arith, length-hex_of (access_bytes xs), length-access_bytes xs)
@@ -37,20 +37,16 @@ access_bytes-push : (xs : List Access) (a : Access) → access_bytes (xs ++ a �
 access_bytes-push [] a = refl
 access_bytes-push (x ∷ xs) a = ap (λ (t : List ℕ). x.mode ∷ (x.cell / 256) ∷ (x.cell % 256) ∷ t) (access_bytes-push xs a)
 
--- the digits of one more access
-pub access_more : (xs : List Access) (line sofar more bytes : List ℕ) (i : ℕ) (d : Access) → i < length xs → sofar ≡ line ++ hex_of (access_bytes (take i xs)) → bytes ≡ access_bytes (get_or xs i d ∷ []) → more ≡ sofar ++ hex_of bytes → more ≡ line ++ hex_of (access_bytes (take (i + 1) xs))
-access_more xs line sofar more bytes i d h inv e f =
+-- one more access is written
+pub access_more : (o : List ℕ) (xs : List Access) (i at end : ℕ) (w w' bytes : List ℕ) (d : Access) → at ≤ length o → i < length xs → end ≡ at + 6 * i → w ≡ take at o ++ over (hex_of (access_bytes (take i xs))) (drop at o) → bytes ≡ access_bytes (get_or xs i d ∷ []) → w' ≡ take end w ++ over (hex_of bytes) (drop end w) → w' ≡ take at o ++ over (hex_of (access_bytes (take (i + 1) xs))) (drop at o)
+access_more o xs i at end w w' bytes d l h e inv f put =
+    let n = length-take-le at o l in
+    let m : length (take at o) + length (hex_of (access_bytes (take i xs))) ≡ end = omega (arith, length-hex_of (access_bytes (take i xs)), length-access_bytes (take i xs), length-take-le i xs (omega arith)) in
+    let u = over_more (take at o) (hex_of (access_bytes (take i xs))) (drop at o) (hex_of (access_bytes (get_or xs i d ∷ []))) end m in
     let t = take_more xs i d h in
     let p = access_bytes-push (take i xs) (get_or xs i d) in
     let q = hex_of-append (access_bytes (take i xs)) (access_bytes (get_or xs i d ∷ [])) in
-    let s = append_assoc line (hex_of (access_bytes (take i xs))) (hex_of (access_bytes (get_or xs i d ∷ []))) in
     cc
-
--- a line with the digits of the first accesses has room for those of all
-pub access_room : (xs : List Access) (line sofar : List ℕ) (i most : ℕ) → i < length xs → sofar ≡ line ++ hex_of (access_bytes (take i xs)) → length line + 6 * length xs ≤ most → length sofar + 6 ≤ most
-access_room xs line sofar i most h inv fits =
-    let e = ap length inv ∙ length-append line (hex_of (access_bytes (take i xs))) in
-    omega (arith, length-hex_of (access_bytes (take i xs)), length-access_bytes (take i xs), length-take-le i xs (omega arith))
 
 pub bytes_from_each : (bs : List ℕ) → ((i : ℕ) → get_or bs i 0 < 256) → Bytes bs
 bytes_from_each [] h = tt

@@ -1,13 +1,13 @@
 // Hexadecimal digits.
-ghost use Rattle.std.specs.Prelude.{◌≡◌, ◌+◌, ◌*◌, ◌%◌, ◌<◌, ◌≤◌, [], ◌∷◌, ◌++◌, cond, length, take, None, Some, Ok, IfSome, OnOk, nat_lt};
+ghost use Rattle.std.specs.Prelude.{◌≡◌, ◌+◌, ◌*◌, ◌%◌, ◌<◌, ◌≤◌, [], ◌∷◌, ◌++◌, cond, length, take, drop, None, Some, Ok, IfSome, OnOk, nat_lt};
 ghost use Rattle.std.specs.List.{prefix_len};
-ghost use Rattle.arrayvec.specs.ArrayVec.{array_vec_len};
 ghost use Rattle.terms.specs.Refusals.{refuse};
 ghost use Rattle.frames.specs.declared.fault.LineFault.TheVariants.{NotHexadecimal};
 ghost use Rattle.frames.specs.Hex.{hex_digit_of, is_hex_digit, hex_value_of, hex_of, bytes_in, Bytes};
+ghost use Rattle.frames.specs.Writing.{over};
 
 use super::fault::LineFault;
-use super::kind::{LONGEST_FRAME, LONGEST_LINE};
+use super::kind::LONGEST_FRAME;
 use arrayvec::ArrayVec;
 
 // Reads the bytes that the digits of a line of even length stand for, as many as the longest frame has;
@@ -32,17 +32,19 @@ pub fn decode(line: &[u8], bytes: &mut ArrayVec<u8, LONGEST_FRAME>) -> Result<()
     Ok(())
 }
 
-// Adds the digits of the bytes to a line.
-pub fn put(line: &mut ArrayVec<u8, LONGEST_LINE>, bytes: &[u8])
-    requires { array_vec_len line.old + 2 * length bytes.now ≤ LONGEST_LINE }
-    ensures line { line.new.items ≡ line.old.items ++ hex_of bytes.now }
+// Writes the digits of the bytes from a place on, and answers the place after them.
+pub fn put(out: &mut [u8], at: usize, bytes: &[u8]) -> usize
+    requires { at + 2 * length bytes.now ≤ length out.old }
+    ensures value { result ≡ at + 2 * length bytes.now }
+    ensures after { out.new ≡ take at out.old ++ over (hex_of bytes.now) (drop at out.old) }
     ensures fit { Bytes bytes.now }
 {
-    for byte in bytes {
+    for (i, byte) in bytes.iter().enumerate() {
         let [high, low] = hex_pair(*byte);
-        line.push(high);
-        line.push(low);
+        out[at + 2 * i] = high;
+        out[at + 2 * i + 1] = low;
     }
+    at + 2 * bytes.len()
 }
 
 // The two digits of a byte, the high one first. By hand: `{:02X}` writes text, and a line is bytes.
