@@ -1,5 +1,5 @@
 // What one line of a log asks for.
-ghost use Rattle.std.specs.Prelude.{◌≡◌, []};
+ghost use Rattle.std.specs.Prelude.{◌≡◌, [], replicate};
 ghost use Rattle.frames.specs.Held.{content_of};
 ghost use Rattle.frames.specs.Kinds.{kind_of};
 
@@ -65,18 +65,18 @@ impl Frame<'_> {
 // Where the reader puts what a frame borrows, so that reading takes no heap. Nobody else sees what it holds.
 #[derive(Drop)]
 pub struct Room {
-    pub(super) bytes: ArrayVec<u8, LONGEST_FRAME>,
+    pub(super) bytes: [u8; LONGEST_FRAME],
     pub(super) accesses: ArrayVec<Access, MOST_ACCESSES>,
 }
 
 impl Room {
     // A blank room.
     pub fn new() -> Room
-        ensures bytes { result.bytes.items ≡ [] }
+        ensures bytes { result.bytes ≡ replicate 1027 0 }
         ensures accesses { result.accesses.items ≡ [] }
     {
         Room {
-            bytes: ArrayVec::new(),
+            bytes: [0; LONGEST_FRAME],
             accesses: ArrayVec::new(),
         }
     }

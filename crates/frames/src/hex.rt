@@ -1,23 +1,20 @@
 // Hexadecimal digits.
-ghost use Rattle.std.specs.Prelude.{◌≡◌, ◌+◌, ◌*◌, ◌%◌, ◌<◌, ◌≤◌, [], ◌∷◌, ◌++◌, cond, length, take, drop, None, Some, Ok, IfSome, OnOk, nat_lt};
+ghost use Rattle.std.specs.Prelude.{◌≡◌, ◌+◌, ◌*◌, ◌%◌, ◌<◌, ◌≤◌, [], ◌∷◌, ◌++◌, cond, length, take, drop, None, Some, Ok, IfSome, nat_lt};
 ghost use Rattle.std.specs.List.{prefix_len};
-ghost use Rattle.terms.specs.Refusals.{refuse};
+ghost use Rattle.terms.specs.Refusals.{refuse, ok_as};
 ghost use Rattle.frames.specs.declared.fault.LineFault.TheVariants.{NotHexadecimal};
 ghost use Rattle.frames.specs.Hex.{hex_digit_of, is_hex_digit, hex_value_of, hex_of, bytes_in, Bytes};
 ghost use Rattle.frames.specs.Writing.{over};
 
 use super::fault::LineFault;
 use super::kind::LONGEST_FRAME;
-use arrayvec::ArrayVec;
 
-// Reads the bytes that the digits of a line of even length stand for, as many as the longest frame has;
-// or finds the first character that is no digit.
-pub fn decode(line: &[u8], bytes: &mut ArrayVec<u8, LONGEST_FRAME>) -> Result<(), LineFault>
+// Reads the bytes that the digits of a line of even length stand for, as many as the longest frame has, into the start of a
+// row, and answers that start; or finds the first character that is no digit.
+pub fn decode<'a>(line: &[u8], row: &'a mut [u8; LONGEST_FRAME]) -> Result<&'a [u8], LineFault>
     requires { length line.now % 2 ≡ 0 }
-    ensures answer { result ≡ refuse (nat_lt (prefix_len is_hex_digit line.now) (length line.now)) (NotHexadecimal (prefix_len is_hex_digit line.now)) (Ok tt) }
-    ensures bytes { OnOk result (bytes.new.items ≡ take LONGEST_FRAME (bytes_in line.now)) }
+    ensures { ok_as (λ bytes. bytes.now) result ≡ refuse (nat_lt (prefix_len is_hex_digit line.now) (length line.now)) (NotHexadecimal (prefix_len is_hex_digit line.now)) (Ok (take LONGEST_FRAME (bytes_in line.now))) }
 {
-    bytes.clear();
     let (pairs, _) = line.as_chunks::<2>();
     for (i, [high, low]) in pairs.iter().enumerate() {
         let Some(high) = value_of(*high) else {
@@ -27,9 +24,11 @@ pub fn decode(line: &[u8], bytes: &mut ArrayVec<u8, LONGEST_FRAME>) -> Result<()
             return Err(LineFault::NotHexadecimal(2 * i + 1));
         };
         // Where the row is full the byte is of no frame, and is left out.
-        let _ = bytes.try_push(16 * high + low);
+        if i < LONGEST_FRAME {
+            row[i] = 16 * high + low;
+        }
     }
-    Ok(())
+    Ok(&row[..pairs.len().min(LONGEST_FRAME)])
 }
 
 // Writes the digits of the bytes from a place on, and answers the place after them.
@@ -60,15 +59,12 @@ fn value_of(character: u8) -> Option<u8>
     ensures value { result ≡ cond (is_hex_digit character) (Some (hex_value_of character)) None }
     ensures bound { IfSome result (λ value. value < 16) }
 {
-    if is_digit(character) {
-        Some(if character <= b'9' {
-            character - b'0'
-        } else {
-            character - b'A' + 10
-        })
-    } else {
-        None
+    if !is_digit(character) {
+        return None;
     }
+    // The character from which the digits of this kind count.
+    let zero = if character <= b'9' { b'0' } else { b'A' - 10 };
+    Some(character - zero)
 }
 
 // By `|` and not `||`, so that both tests are made and none is jumped over.

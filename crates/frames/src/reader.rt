@@ -23,8 +23,7 @@ pub fn read_line<'a>(line: &[u8], room: &'a mut Room) -> Result<Frame<'a>, LineF
         return Err(LineFault::OddCount(line.len()));
     }
     let Room { bytes, accesses } = room;
-    decode(line, bytes)?;
-    let bytes = bytes.as_slice();
+    let bytes = decode(line, bytes)?;
     let Some(first) = bytes.first() else {
         return Err(LineFault::Empty);
     };
@@ -36,7 +35,9 @@ pub fn read_line<'a>(line: &[u8], room: &'a mut Room) -> Result<Frame<'a>, LineF
     frame_of_kind(kind, bytes, accesses).ok_or(LineFault::WrongLength(len))
 }
 
-// The frame of this kind in a row of bytes, if they are as many as that kind has.
+// The frame of this kind in a row of bytes, if they are as many as that kind has. Inlined, since an `Option` that is handed back
+// in memory is stored in parts and loaded whole, and on a short line the wait for that tells.
+#[inline(always)]
 fn frame_of_kind<'a>(
     kind: Kind,
     bytes: &'a [u8],
@@ -65,7 +66,8 @@ fn frame_of_kind<'a>(
     }
 }
 
-// An append, if the row is as long as its count of accesses says.
+// An append, if the row is as long as its count of accesses says. Inlined for the same reason.
+#[inline(always)]
 fn append_in<'a>(
     bytes: &'a [u8],
     accesses: &'a mut ArrayVec<Access, MOST_ACCESSES>,

@@ -1,4 +1,4 @@
-use Rattle.std.proofs.Common.{◌≡◌, ◌+◌, ◌*◌, take, drop}
+use Rattle.std.proofs.Common.{◌≡◌, ◌+◌, ◌*◌, length, take, drop}
 use Rattle.std.specs.List.{prefix_len}
 use Rattle.frames.specs.Hex.{is_hex_digit, bytes_in}
 use Rattle.frames.proofs.hex.decode.Given as goal
@@ -7,4 +7,5 @@ use Rattle.frames.proofs.hex.decode.Given as goal
 abbrev pub invariant-loop-i : goal.invariant-loop-i
 invariant-loop-i l =
     (2 * l.i + prefix_len is_hex_digit (drop (2 * l.i) l.line) ≡ prefix_len is_hex_digit l.line)
-    × (l.bytes.items ≡ take l.i (take 1027 (bytes_in l.line)))
+    × (length l.row ≡ 1027)
+    × (take l.i l.row ≡ take l.i (take 1027 (bytes_in l.line)))
