@@ -43,7 +43,7 @@ loop-i-preserved c =
     let (digits, long, sofar) = c.loop-i.invariant in
     let row : (length c.if-i-lt-LONGEST_FRAME.row ≡ 1027) × (take (i + 1) c.if-i-lt-LONGEST_FRAME.row ≡ take (i + 1) (take 1027 (bytes_in line))) =
     elim c.if-i-lt-LONGEST_FRAME.branch [
-      | then-i-lt-LONGEST_FRAME w ↦ row_set 1027 (bytes_in line) c.loop-i.row _ i _ long sofar w.if-i-lt-LONGEST_FRAME.true (omega (arith, length-bytes_in line)) byte w.row-is
+      | then-i-lt-LONGEST_FRAME w ↦ row_set 1027 (bytes_in line) c.loop-i.row _ i _ long sofar w.if-i-lt-LONGEST_FRAME.true (omega (arith, length-bytes_in line)) (omega (arith, byte)) w.row-is
       | else-i-lt-LONGEST_FRAME w ↦ row_full 1027 (bytes_in line) c.loop-i.row _ i long sofar w.if-i-lt-LONGEST_FRAME.false w.row-is
     ] in
     (omega (arith, digits), row.0, row.1)

@@ -1,8 +1,8 @@
-use Rattle.std.proofs.Common.{ℕ, ◌+◌, List, set, vec_len, ap, ◌∙◌, arith}
-use Rattle.std.proofs.lemmas.List.{length_push}
+use Rattle.std.proofs.Common.{◌≡◌, ℕ, ◌+◌, List, set, vec_len, ap, ◌∙◌, arith}
+use Rattle.std.proofs.lemmas.List.{length_push, set-get_or}
 use Rattle.model.specs.State.{Order, Worker, worker_at}
 use Rattle.model.specs.Model.{pushed}
-use Rattle.rows.specs.Lasts.{LastLists, joints_after_of}
+use Rattle.rows.specs.Lasts.{LastLists, joints_after_of, joint_needs_of}
 use Rattle.workers.proofs.Tables.{workers-length}
 use Rattle.workers.specs.Views.{workers_of}
 use Rattle.store.specs.Views.{view}
@@ -29,6 +29,10 @@ pub returns-clause-after : goal.returns-clause-after
 returns-clause-after c =
     let s = c.args.self.now in
     let ws = workers_of s.workers in
-    let workers = c.push_joint.ensures ∙ ap (λ (needs : List ℕ). set ws 0 (pushed (record { number = s.assigned + 1; needs = needs }) (worker_at ws 0))) c.joint_needs-needs.ensures in
+    -- putting back a need that stands there changes nothing, so only another need is refused
+    let same = set-get_or c.joint_needs-needs.result 1 0 in
+    let needs = c.joint_needs-needs.ensures in
+    let workers : workers_of c.push_joint.new.self ≡ set (workers_of s.workers) 0 (pushed (record { number = s.assigned + 1; needs = joint_needs_of c.args.touched.now s.lasts.plains }) (worker_at (workers_of s.workers) 0)) =
+    let pushing = c.push_joint.ensures in cc in
     ap (λ (l : LastLists). record { rows = (view s).rows; assigned = s.assigned + 1; finished = s.finished; workers = workers_of c.push_joint.new.self; marks = s.marks; joints = l.joints; plains = l.plains }) c.assign_joint.ensures
     ∙ ap (λ (xs : List Worker). record { rows = (view s).rows; assigned = s.assigned + 1; finished = s.finished; workers = xs; marks = s.marks; joints = joints_after_of c.args.touched.now s.lasts.joints (s.assigned + 1); plains = s.lasts.plains }) workers
