@@ -7,7 +7,7 @@ use terms::{Access, MOST_ACCESSES};
 
 // The first accesses of the eight are the intention's; each has a mark. They stand in the intention itself, so a full log asks
 // for no memory, and in an array, so an intention and its row may be copied.
-// No impl Model: the prover takes no copy of a struct that holds one with a model.
+// No impl Model: a row that held one could be handed on twice only if it was copied into another variable first.
 #[derive(Clone, Copy)]
 pub struct Intention {
     pub(crate) snapshot: u16,

@@ -17,7 +17,7 @@ pub struct Workers {
 }
 
 // Where a worker's oldest order stands in its row. It is good until the worker's orders change.
-// The worker is a plain number: the prover takes no copy of a struct that holds one with a model, and a place is asked of twice.
+// The worker is a plain number: with a type that has a model, a place would have to be copied before it is asked of again.
 #[derive(Clone, Copy)]
 pub struct OrderPlace {
     pub(crate) worker: usize,

@@ -29,7 +29,7 @@ pub returns-clause-after : goal.returns-clause-after
 returns-clause-after c =
     let s = c.args.self.now in
     let ws = workers_of s.workers in
-    -- putting back a need that stands there changes nothing, so only another need is refused
+    -- putting back a need that stands there changes nothing
     let same = set-get_or c.joint_needs-needs.result 1 0 in
     let needs = c.joint_needs-needs.ensures in
     let workers : workers_of c.push_joint.new.self ≡ set (workers_of s.workers) 0 (pushed (record { number = s.assigned + 1; needs = joint_needs_of c.args.touched.now s.lasts.plains }) (worker_at (workers_of s.workers) 0)) =
